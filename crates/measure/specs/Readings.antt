@@ -1,0 +1,47 @@
+-- What a reading counts as (01, 'What a tick brings'). Definitions only.
+use Prim.Native.Nat.{ℕ, _≤_}
+use mathlib.Core.Bool.{Bool, true, false}
+use lib.Ieee.{Float}
+use Rattle.measure.specs.declared.Channel.{Channel}
+use Rattle.measure.specs.declared.Channel.the-variants.{Voltage, Current1A, Current5A}
+use Rattle.measure.specs.declared.Converted.{Converted}
+use Rattle.measure.specs.declared.Converted.the-variants.{OutOfRange, Whole}
+use Rattle.measure.specs.declared.Measured.{Measured}
+use Rattle.measure.specs.declared.Measured.the-variants as measured
+use Rattle.measure.specs.declared.Reading.{Reading}
+use Rattle.measure.specs.declared.Reading.the-variants.{Good, Held, Invalid}
+use Rattle.measure.specs.Exact.{inRange, thousandths}
+
+-- "200 V or 40 × k A", where k is 1 for a 1 A module and 5 for a 5 A one
+abbrev pub limitOf : Channel → ℕ
+limitOf Voltage = 200
+limitOf Current1A = 40
+limitOf Current5A = 200
+
+abbrev pub ifInRange : Bool → ℕ → Converted
+ifInRange true n = Whole n
+ifInRange false n = OutOfRange
+
+-- a number in range counts as its whole thousandths
+abbrev pub convertedOf : ℕ → Float → Converted
+convertedOf limit x = ifInRange (inRange limit x) (thousandths x)
+
+unfoldable pub goodOf : Converted → Measured
+goodOf OutOfRange = measured.Missing
+goodOf (Whole n) = measured.Good n
+
+unfoldable pub heldOf : Converted → Measured
+heldOf OutOfRange = measured.Missing
+heldOf (Whole n) = measured.Held n
+
+-- missing, as is Invalid; otherwise the number, Good or Held as it was handed over
+unfoldable pub measuredOf : ℕ → Reading → Measured
+measuredOf limit (Good x) = goodOf (convertedOf limit x)
+measuredOf limit (Held x) = heldOf (convertedOf limit x)
+measuredOf limit Invalid = measured.Missing
+
+-- a measured number is not above n
+unfoldable pub AtMost : ℕ → Measured → Type 0
+AtMost n (measured.Good m) = m ≤ n
+AtMost n (measured.Held m) = m ≤ n
+AtMost n measured.Missing = Unit

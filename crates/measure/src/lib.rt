@@ -1,0 +1,103 @@
+// One measured reading as whole thousandths (mV, mA), by its exact value.
+ghost use mathlib.Core.Path.{_≡_};
+ghost use lib.Dec.{T};
+ghost use Rattle.measure.specs.Exact.{inRange, thousandths};
+ghost use Rattle.measure.specs.Readings.{limitOf, convertedOf, goodOf, heldOf, measuredOf};
+
+// What the module hands over: a number in V or A, fresh or held from before, or nothing.
+pub enum Reading {
+    Good(f32),
+    Held(f32),
+    Invalid,
+}
+
+// What a reading counts as, in mV or mA. Missing: Invalid, or a number that is out of range.
+pub enum Measured {
+    Good(u32),
+    Held(u32),
+    Missing,
+}
+
+// What is measured: it sets the range. The current's range goes by the module's rated current.
+pub enum Channel {
+    Voltage,
+    Current1A,
+    Current5A,
+}
+
+// A number of thousandths, or none where the reading's number is out of range.
+enum Converted {
+    OutOfRange,
+    Whole(u32),
+}
+
+// The upper end of the range, in V or A.
+pub fn limit(c: Channel) -> u16
+    ensures { λ r. ⌜ r ≡ limitOf c ⌝ }
+{
+    match c {
+        Channel::Voltage => 200,
+        Channel::Current1A => 40,
+        Channel::Current5A => 200,
+    }
+}
+
+// The largest whole number not above 1000 * x. x is (2^23 + digits) / 2^(150 - exponent); where the exponent is below 116,
+// x is below 2^-11, a subnormal number among them, and gives 0.
+fn whole_thousandths(x: f32) -> u32
+    requires { ⌜ T (inRange 200 x) ⌝ }
+    ensures { λ r. ⌜ r ≡ thousandths x ⌝ }
+{
+    let bits: u32 = f32::to_bits(x);
+    let exponent = bits % 0x8000_0000 / 0x80_0000;
+    if exponent < 116 {
+        return 0;
+    }
+    let digits = (bits % 0x80_0000 + 0x80_0000) as u64;
+    ((1000 * digits) >> (150 - exponent)) as u32
+}
+
+// Two comparisons decide the range: a NaN fails the first, and so does -infinity; -0.0 passes it and counts as 0; +infinity
+// and the largest float fail the second.
+fn convert(c: Channel, x: f32) -> Converted
+    ensures { λ r. ⌜ r ≡ convertedOf (limitOf c) x ⌝ }
+{
+    let top = limit(c);
+    if x >= 0.0 {
+        if x <= top as f32 {
+            return Converted::Whole(whole_thousandths(x));
+        }
+    }
+    Converted::OutOfRange
+}
+
+// The number of a Good reading.
+fn as_good(a: Converted) -> Measured
+    ensures { λ r. ⌜ r ≡ goodOf a ⌝ }
+{
+    match a {
+        Converted::OutOfRange => Measured::Missing,
+        Converted::Whole(n) => Measured::Good(n),
+    }
+}
+
+// The number of a Held reading.
+fn as_held(a: Converted) -> Measured
+    ensures { λ r. ⌜ r ≡ heldOf a ⌝ }
+{
+    match a {
+        Converted::OutOfRange => Measured::Missing,
+        Converted::Whole(n) => Measured::Held(n),
+    }
+}
+
+// What a reading counts as.
+pub fn measure(c: Channel, r: Reading) -> Measured
+    ensures { λ m. ⌜ m ≡ measuredOf (limitOf c) r ⌝ }
+{
+    match r {
+        Reading::Good(x) => as_good(convert(c, x)),
+        Reading::Held(x) => as_held(convert(c, x)),
+        Reading::Invalid => Measured::Missing,
+    }
+}
