@@ -1,0 +1,17 @@
+use Rattle.drive.specs.Latches.{latchedOf}
+use borrow.Author.Needs.{needs}
+use Rattle.drive.proofs.latching.latched.Statement.{statement}
+use Rattle.drive.proofs.latching.latched.Tie as tie
+
+later-requires : tie.Need-later-requires
+later-requires c κs = search needs
+
+aged-requires : tie.Need-aged-requires
+aged-requires c κs = search needs
+
+returns : tie.Need-returns
+unfolding latchedOf
+returns c = cc
+
+pub latched-spec : {M : Type 1} → statement M
+latched-spec = tie.close (tie.spec later-requires aged-requires returns)

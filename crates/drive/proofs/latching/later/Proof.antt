@@ -1,0 +1,19 @@
+use Rattle.common.proofs.Cases.{cases}
+use Rattle.drive.specs.Latches.{laterOf}
+use borrow.Author.Needs.{needs}
+use Rattle.drive.proofs.latching.later.Statement.{statement}
+use Rattle.drive.proofs.latching.later.Tie as tie
+
+is-fault-requires : tie.Need-is-fault-requires
+is-fault-requires c κs = search needs
+
+returns : tie.Need-returns
+unfolding laterOf
+returns c = search cases
+
+returns-2 : tie.Need-returns-2
+unfolding laterOf
+returns-2 c = search cases
+
+pub later-spec : {M : Type 1} → statement M
+later-spec = tie.close (tie.spec is-fault-requires returns returns-2)

@@ -1,0 +1,3 @@
+pub mod Follow
+pub mod Latches
+pub mod Shown
