@@ -1,0 +1,120 @@
+// What a tick brings: six readings, the contacts and keys, the BCD lines and the sensor byte.
+ghost use mathlib.Core.Path.{_≡_};
+ghost use Rattle.input.specs.Brought.{contactsOf, currentOf, readingsOf};
+use measure::Channel;
+use measure::Measured;
+use measure::Reading;
+
+pub struct Input {
+    pub u_ab: Reading,
+    pub u0: Reading,
+    pub u2: Reading,
+    pub i_high: Reading,
+    pub i_bus: Reading,
+    pub i_coupler: Reading,
+    pub contacts: u32,
+    pub bcd: u8,
+    pub sensor: u8,
+}
+
+// The contacts and keys, each under its bit of the number, from bit 0 on.
+pub struct Contacts {
+    pub breaker_closed: bool,
+    pub switching: bool,
+    pub supply_off: bool,
+    pub oil_cold: bool,
+    pub oil_low: bool,
+    pub oil_high: bool,
+    pub end_up: bool,
+    pub end_down: bool,
+    pub overcurrent: bool,
+    pub external_block: bool,
+    pub raise_block: bool,
+    pub lower_block: bool,
+    pub reset: bool,
+    pub out: bool,
+    pub automatic: bool,
+    pub local_drive: bool,
+    pub u_supp2: bool,
+    pub u_supp3: bool,
+    pub u_supp4: bool,
+    pub raise_button: bool,
+    pub lower_button: bool,
+}
+
+// The six readings as they count, 3U0 being `u0`.
+pub struct Readings {
+    pub u_ab: Measured,
+    pub u0: Measured,
+    pub u2: Measured,
+    pub i_high: Measured,
+    pub i_bus: Measured,
+    pub i_coupler: Measured,
+}
+
+// The bits of the contacts' number; those from 21 on are ignored.
+pub fn decode_contacts(n: u32) -> Contacts
+    ensures { λ r. ⌜ r ≡ contactsOf n ⌝ }
+{
+    Contacts {
+        breaker_closed: (n >> 0) % 2 == 1,
+        switching: (n >> 1) % 2 == 1,
+        supply_off: (n >> 2) % 2 == 1,
+        oil_cold: (n >> 3) % 2 == 1,
+        oil_low: (n >> 4) % 2 == 1,
+        oil_high: (n >> 5) % 2 == 1,
+        end_up: (n >> 6) % 2 == 1,
+        end_down: (n >> 7) % 2 == 1,
+        overcurrent: (n >> 8) % 2 == 1,
+        external_block: (n >> 9) % 2 == 1,
+        raise_block: (n >> 10) % 2 == 1,
+        lower_block: (n >> 11) % 2 == 1,
+        reset: (n >> 12) % 2 == 1,
+        out: (n >> 13) % 2 == 1,
+        automatic: (n >> 14) % 2 == 1,
+        local_drive: (n >> 15) % 2 == 1,
+        u_supp2: (n >> 16) % 2 == 1,
+        u_supp3: (n >> 17) % 2 == 1,
+        u_supp4: (n >> 18) % 2 == 1,
+        raise_button: (n >> 19) % 2 == 1,
+        lower_button: (n >> 20) % 2 == 1,
+    }
+}
+
+// The range of a current, by the module's rated current.
+pub fn current_channel(five_ampere: bool) -> Channel
+    ensures { λ r. ⌜ r ≡ currentOf «five_ampere» ⌝ }
+{
+    if five_ampere {
+        Channel::Current5A
+    } else {
+        Channel::Current1A
+    }
+}
+
+// What the six readings count as.
+pub fn measure_all(i: Input, five_ampere: bool) -> Readings
+    ensures { λ r. ⌜ r ≡ readingsOf i «five_ampere» ⌝ }
+{
+    let current = current_channel(five_ampere);
+    let a = i.u_ab;
+    let b = i.u0;
+    let c = i.u2;
+    let d = i.i_high;
+    let e = i.i_bus;
+    let f = i.i_coupler;
+    let u_ab = measure::measure(Channel::Voltage, a);
+    let u0 = measure::measure(Channel::Voltage, b);
+    let u2 = measure::measure(Channel::Voltage, c);
+    let i_high = measure::measure(current, d);
+    let i_bus = measure::measure(current, e);
+    let i_coupler = measure::measure(current, f);
+    Readings {
+        u_ab: u_ab,
+        u0: u0,
+        u2: u2,
+        i_high: i_high,
+        i_bus: i_bus,
+        i_coupler: i_coupler,
+    }
+}
