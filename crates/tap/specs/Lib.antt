@@ -1,0 +1,4 @@
+pub mod Positions
+pub mod Sliding
+pub mod Counted
+pub mod Stars
