@@ -49,7 +49,10 @@ more-ltb a b h = le-ltb (a + 1) b (omega arith)
 pub more-leb : (a b : ℕ) → a < b → leb (a + 1) b ≡ true
 more-leb a b h = le-leb (a + 1) b (omega arith)
 
+pub late-leb : (a b : ℕ) → b ≤ a → leb b (a + 1) ≡ true
+late-leb a b h = le-leb b (a + 1) (omega arith)
+
 pub past-leb : (a b : ℕ) → b ≤ a → leb (a + 1) b ≡ false
 past-leb a b h = lt-leb (a + 1) b (omega arith)
 
-pub ruleset cases = (yes, no, yes-told, no-told, lt-ltb, le-ltb, le-leb, lt-leb, eq-eqb, ne-eqb, not-true, not-false, more-ltb, more-leb, past-leb, needs)
+pub ruleset cases = (yes, no, yes-told, no-told, lt-ltb, le-ltb, le-leb, lt-leb, eq-eqb, ne-eqb, not-true, not-false, more-ltb, more-leb, late-leb, past-leb, needs)

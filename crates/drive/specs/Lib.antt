@@ -1,3 +1,4 @@
 pub mod Follow
 pub mod Latches
 pub mod Shown
+pub mod Ways

@@ -1,10 +1,8 @@
--- Rule 10 of 01: the command that is on, and which output shows what. Definitions only.
+-- Rule 10 of 01: the command that is on, and which output shows a fault. Definitions only.
 use Prim.Native.Nat.{ℕ}
 use mathlib.Core.Bool.{Bool, true, false, _&&_}
 use lib.Dec.{leb}
 use Rattle.common.specs.Choice.{choose}
-use Rattle.drive.specs.declared.Direction.{Direction}
-use Rattle.drive.specs.declared.Direction.the-variants.{Raise, Lower}
 use Rattle.drive.specs.declared.Way.{Way}
 use Rattle.drive.specs.declared.Way.the-variants.{Neither, To}
 use Rattle.drive.specs.declared.Drive.{Drive}
@@ -17,16 +15,6 @@ unfoldable pub onOf : Drive → ℕ → Way
 onOf Resting t7 = Neither
 onOf (Asked d age) t7 = To d
 onOf (Moving d n commanded) t7 = choose (commanded && leb n t7) (To d) Neither
-
-abbrev pub raises : Way → Bool
-raises Neither = false
-raises (To Raise) = true
-raises (To Lower) = false
-
-abbrev pub lowers : Way → Bool
-lowers Neither = false
-lowers (To Raise) = false
-lowers (To Lower) = true
 
 -- outputs "19–22 run-away, not started, long, fast"
 abbrev pub fieldOf : Fault → ℕ

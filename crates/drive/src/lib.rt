@@ -2,6 +2,7 @@
 pub mod follow;
 pub mod latching;
 pub mod shown;
+pub mod ways;
 
 pub enum Direction {
     Raise,

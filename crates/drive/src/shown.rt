@@ -1,7 +1,6 @@
-// Rule 10: when a command is on. The outputs of a direction and of a fault.
+// Rule 10: when a command is on. The output that shows a fault.
 ghost use mathlib.Core.Path.{_≡_};
-ghost use Rattle.drive.specs.Shown.{onOf, raises, lowers, fieldOf};
-use crate::Direction;
+ghost use Rattle.drive.specs.Shown.{onOf, fieldOf};
 use crate::Drive;
 use crate::Fault;
 use crate::Way;
@@ -24,30 +23,6 @@ pub fn command_on(d: Drive, t7: u32) -> Way
                 Way::Neither
             }
         }
-    }
-}
-
-pub fn to_raise(w: Way) -> bool
-    ensures { λ r. ⌜ r ≡ raises w ⌝ }
-{
-    match w {
-        Way::Neither => false,
-        Way::To(d) => match d {
-            Direction::Raise => true,
-            Direction::Lower => false,
-        },
-    }
-}
-
-pub fn to_lower(w: Way) -> bool
-    ensures { λ r. ⌜ r ≡ lowers w ⌝ }
-{
-    match w {
-        Way::Neither => false,
-        Way::To(d) => match d {
-            Direction::Raise => false,
-            Direction::Lower => true,
-        },
     }
 }
 
