@@ -1,0 +1,4 @@
+pub mod Facts
+pub mod Parts
+pub mod Places
+pub mod Within

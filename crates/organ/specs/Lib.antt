@@ -1,0 +1,4 @@
+pub mod Organs
+pub mod Limits
+pub mod Runs
+pub mod Stars

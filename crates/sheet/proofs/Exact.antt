@@ -1,0 +1,143 @@
+-- A list is taken exactly if it is what the settings must be.
+-- Assumes nothing.
+use mathlib.Core.Path.{_≡_, refl, sym, _∙_, ap}
+use mathlib.Core.Bool.{Bool, true, false}
+use mathlib.Core.Logic.{_↔_, ⊎-elim}
+use mathlib.Core.List.{List}
+use Prim.Native.Nat.{ℕ, zero, suc, _+_, _-_, _*_, _/_, _%_, _<_, _≤_}
+use native.Mathlib.Nat.{div-add-mod', mul-mod-left, eq-or-lt-of-le}
+use native.Mathlib.Omega.{arith}
+use lib.Dec.{leb}
+use borrow.Author.Tests.{ltb-false, leb-true, leb-false, le-leb, eqb-true, eq-eqb, not-false}
+use Rattle.common.specs.Choice.{choose}
+use Rattle.common.proofs.Cases.{yes, no}
+use Rattle.slots.specs.Slots.{slot, nPos, nR, nL}
+use Rattle.sheet.specs.Table.{lowOf, highOf, stepOf, takenOf, Taking}
+use Rattle.sheet.specs.Sheet.{firstFrom, takenIn, firstOutOfRange, judgeOf, answerOf, sheetWith, sheetOf, replyOf, returnedOf}
+use Rattle.sheet.specs.Settings.{Settings}
+use Rattle.sheet.specs.declared.Answer.the-variants.{Taken, WrongLength, OutOfRange, TapOrder}
+use Rattle.sheet.specs.declared.Sheet.{Sheet}
+use Rattle.sheet.proofs.Every.{and-left, and-right, and-both}
+use Rattle.sheet.proofs.Answers.{within, answer-right, not-refused, returned}
+
+-- a number that the test takes is low + a whole multiple of the step, up to high, and no other is
+module _ (k i x : ℕ) where
+  pub taken-taking : takenOf k i x ≡ true → Taking k i x
+  unfolding takenOf
+  taken-taking e =
+      let l : lowOf k i ≤ x = leb-true _ _ (and-left _ _ e) in
+      let r = and-right (leb (lowOf k i) x) _ e in
+      let m : (x - lowOf k i) % stepOf i ≡ 0 = eqb-true _ _ (and-right (leb x (highOf k i)) _ r) in
+      let d : (x - lowOf k i) / stepOf i * stepOf i + (x - lowOf k i) % stepOf i ≡ x - lowOf k i = div-add-mod' (x - lowOf k i) (stepOf i) in
+      ((x - lowOf k i) / stepOf i, omega arith, leb-true _ _ (and-left _ _ r))
+
+  pub taking-taken : Taking k i x → takenOf k i x ≡ true
+  unfolding takenOf
+  taking-taken t =
+      let n = t .0 in
+      let e : x ≡ lowOf k i + n * stepOf i = t .1 in
+      let l : lowOf k i ≤ x = omega arith in
+      let d : x - lowOf k i ≡ n * stepOf i = omega arith in
+      let m : (x - lowOf k i) % stepOf i ≡ 0 = rw d (mul-mod-left n (stepOf i)) in
+      and-both _ _ (le-leb _ _ l) (and-both _ _ (le-leb _ _ (t .2)) (eq-eqb _ _ m))
+
+-- below the lowest number at which a test fails it holds, and where it holds at all n numbers there is none
+module _ (f : ℕ → Bool) where
+  on : (n i : ℕ) → f i ≡ true → firstFrom f (suc n) i ≡ firstFrom f n (suc i)
+  unfolding firstFrom
+  on n i e = sym (yes _ _ _ _ e refl)
+
+  off : (n i : ℕ) → f i ≡ false → firstFrom f (suc n) i ≡ i
+  unfolding firstFrom
+  off n i e = sym (no _ _ _ _ e refl)
+
+  pub holds-below : (n i j : ℕ) → i ≤ j → j < firstFrom f n i → f j ≡ true
+  unfolding firstFrom
+  holds-below zero i j h l = absurd (omega arith)
+  holds-below (suc n) i j h l = go (f i) refl (holds-below n (suc i) j)
+    where
+      go : (b : Bool) → f i ≡ b → (suc i ≤ j → j < firstFrom f n (suc i) → f j ≡ true) → f j ≡ true
+      go true e rest =
+          ⊎-elim (λ (p : i ≡ j). ap f (sym p) ∙ e) (λ (p : i < j). rest p (rw (on n i e) at l)) (eq-or-lt-of-le h)
+      go false e rest = absurd (let z : firstFrom f (suc n) i ≡ i = off n i e in omega arith)
+
+  pub holds-at-all : (n i : ℕ) → ((j : ℕ) → i ≤ j → j < i + n → f j ≡ true) → firstFrom f n i ≡ i + n
+  unfolding firstFrom
+  holds-at-all zero i h = omega arith
+  holds-at-all (suc n) i h =
+      on n i (h i (omega arith) (omega arith)) ∙ holds-at-all n (suc i) (λ j p q. h j (omega arith) (omega arith)) ∙ omega arith
+
+-- what a choice gives, where it does not give the first, is the second
+passed-by : {A : Type 0} (b : Bool) (x y z : A) → choose b x y ≡ z → (x ≡ z → ⊥) → (b ≡ false) × (y ≡ z)
+unfolding choose
+passed-by true x y z e d = absurd (d e)
+passed-by false x y z e d = (refl, e)
+
+refused-length : WrongLength ≡ Taken → ⊥
+refused-length e = let z : _≡_ {A = ℕ} 0 1 = cc in omega arith
+
+refused-slot : {n : ℕ} → OutOfRange n ≡ Taken → ⊥
+refused-slot e = let z : _≡_ {A = ℕ} 0 1 = cc in omega arith
+
+refused-tap : {n : ℕ} → TapOrder n ≡ Taken → ⊥
+refused-tap e = let z : _≡_ {A = ℕ} 0 1 = cc in omega arith
+
+-- what a list that is judged as taken keeps to
+pub record Kept (s : List ℕ) : Type 0 where
+  pub ranges : (i : ℕ) → i < 63 → takenIn s i ≡ true
+  pub ends : slot s nL < slot s nR
+  pub above : slot s nL ≤ slot s nPos
+  pub below : slot s nPos ≤ slot s nR
+
+module _ (s : List ℕ) where
+  pub judged-kept : judgeOf s ≡ Taken → Kept s
+  unfolding judgeOf firstOutOfRange
+  judged-kept e =
+      let a = passed-by _ _ _ _ e refused-slot in
+      let n : 63 ≤ firstOutOfRange s = ltb-false _ _ (a .0) in
+      let b = passed-by _ _ _ _ (a .1) refused-tap in
+      let c : within s ≡ true = not-false _ (passed-by _ _ _ _ (b .1) refused-tap .0) in
+      record {
+        ranges = λ i h. holds-below (takenIn s) 63 0 i (omega arith) (omega (arith, n));
+        ends = leb-false _ _ (b .0);
+        above = leb-true _ _ (and-left _ _ c);
+        below = leb-true _ _ (and-right (leb (slot s nL) (slot s nPos)) _ c);
+      }
+
+  pub kept-judged : Kept s → judgeOf s ≡ Taken
+  unfolding firstOutOfRange
+  kept-judged k =
+      sym
+      (not-refused s refl
+      (omega (arith, holds-at-all (takenIn s) 63 0 (λ j p q. k .ranges j (omega arith))))
+      (k .ends)
+      (and-both _ _ (le-leb _ _ (k .above)) (le-leb _ _ (k .below))))
+
+  taken-settings : answerOf s ≡ Taken → Settings s
+  unfolding answerOf takenIn
+  taken-settings e =
+      let a = passed-by _ _ _ _ e refused-length in
+      let k = judged-kept (a .1) in
+      record {
+        size = eqb-true _ _ (not-false _ (a .0));
+        ranges = λ i h. taken-taking _ _ _ (k .ranges i h);
+        ends = k .ends;
+        above = k .above;
+        below = k .below;
+      }
+
+  settings-taken : Settings s → answerOf s ≡ Taken
+  unfolding takenIn
+  settings-taken t =
+      answer-right s (t .size)
+      ∙ kept-judged (record { ranges = λ i h. taking-taken _ _ _ (t .ranges i h); ends = t .ends; above = t .above; below = t .below })
+
+  pub exact : (answerOf s ≡ Taken) ↔ Settings s
+  exact = (taken-settings, settings-taken)
+
+  -- all that the check of a list promises
+  pub checked : {r : Sheet} → r ≡ sheetOf s → (r ≡ sheetOf s) × ((replyOf r ≡ returnedOf s) × ((r .answer ≡ Taken) ↔ Settings s))
+  unfolding sheetOf sheetWith
+  checked e =
+      let a = ap (λ (x : Sheet). x .answer) e in
+      (e, (ap replyOf e ∙ returned s, ((λ p. exact .0 (sym a ∙ p)), (λ t. a ∙ exact .1 t))))

@@ -1,0 +1,160 @@
+-- What holds of settings that pass, for the crates that use them.
+-- Assumes nothing.
+use mathlib.Core.Path.{_≡_, refl, sym, _∙_, ap}
+use mathlib.Core.Bool.{Bool, true, false, _&&_}
+use mathlib.Core.List.{List}
+use Prim.Native.Nat.{ℕ, _+_, _*_, _<_, _≤_}
+use native.Mathlib.Nat.{mul-le-mul, mul-one, le-refl, le-trans}
+use native.Mathlib.Omega.{arith}
+use lib.Dec.{leb, ltb}
+use borrow.Author.Tests.{leb-true, ltb-true}
+use Rattle.common.specs.Choice.{choose}
+use Rattle.common.proofs.Cases.{chosen}
+use Rattle.slots.specs.Slots.{slot, t1, t2, t3, t4, t5, t6, t7, t8, organDelays, organLimits, uSupp, dU, uComp, uSet5, nPos, nR, nL, nStart, nMax, slidingTaps}
+use Rattle.sheet.specs.Table.{rowOf, rowIn, moduleFactor, factorOf, lowOf, highOf, takenOf}
+use Rattle.sheet.specs.Sheet.{isTaken, takenIn, judgeOf, passesOf, answerOf}
+use Rattle.sheet.specs.declared.Answer.{Answer}
+use Rattle.sheet.specs.declared.Answer.the-variants.{Taken, WrongLength, OutOfRange, TapOrder}
+use Rattle.sheet.proofs.Every.{and-left, and-right, allBelow, every}
+use Rattle.sheet.proofs.Exact.{Kept, judged-kept, exact}
+use Rattle.sheet.proofs.Answers.{answer-right}
+
+is-taken : (a : Answer) → isTaken a ≡ true → a ≡ Taken
+is-taken Taken e = refl
+is-taken WrongLength e = absurd (let z : _≡_ {A = ℕ} 0 1 = cc in omega arith)
+is-taken (OutOfRange i) e = absurd (let z : _≡_ {A = ℕ} 0 1 = cc in omega arith)
+is-taken (TapOrder i) e = absurd (let z : _≡_ {A = ℕ} 0 1 = cc in omega arith)
+
+-- to pass is to be judged as taken, and a list that is taken passes
+module _ (s : List ℕ) where
+  pub pass-judged : passesOf s ≡ true → judgeOf s ≡ Taken
+  unfolding passesOf
+  pass-judged e = is-taken (judgeOf s) e
+
+  pub judged-pass : judgeOf s ≡ Taken → passesOf s ≡ true
+  unfolding passesOf
+  judged-pass e = ap isTaken e
+
+  pub taken-pass : answerOf s ≡ Taken → passesOf s ≡ true
+  taken-pass e = judged-pass (sym (answer-right s (exact s .0 e .size)) ∙ e)
+
+-- k is 1 to 5, and no bound of a row grows by more
+factor-pos : (s : List ℕ) → (1 ≤ moduleFactor s) × (moduleFactor s ≤ 5)
+unfolding moduleFactor
+factor-pos s = chosen (λ n. (1 ≤ n) × (n ≤ 5)) _ 5 1 (λ t. (omega arith, omega arith)) (λ t. (omega arith, omega arith))
+
+-- the largest number that a slot's row takes, with either module
+abbrev topOf : ℕ → ℕ
+topOf i = rowOf i .high * choose (rowOf i .scaled) 5 1
+
+row-bounds : (b : Bool) (k l h : ℕ) → 1 ≤ k → k ≤ 5 → (l ≤ l * choose b k 1) × (h * choose b k 1 ≤ h * choose b 5 1)
+unfolding choose
+row-bounds true k l h p q = (rw mul-one at (mul-le-mul (le-refl l) p), mul-le-mul (le-refl h) q)
+row-bounds false k l h p q = (omega arith, le-refl (h * 1))
+
+module _ (s : List ℕ) (e : passesOf s ≡ true) where
+  kept : Kept s
+  kept = judged-kept s (pass-judged s e)
+
+  -- each slot is within its row
+  pub in-range : (i : ℕ) → i < 63 → (lowOf (moduleFactor s) i ≤ slot s i) × (slot s i ≤ highOf (moduleFactor s) i)
+  unfolding takenIn takenOf
+  in-range i h =
+      let t = kept .ranges i h in
+      (leb-true _ _ (and-left _ _ t), leb-true _ _ (and-left _ _ (and-right (leb (lowOf (moduleFactor s) i) (slot s i)) _ t)))
+
+  -- and so within bounds that hold with either module
+  pub in-row : (i : ℕ) → i < 63 → (rowOf i .low ≤ slot s i) × (slot s i ≤ topOf i)
+  unfolding lowOf highOf factorOf
+  in-row i h =
+      let b = row-bounds (rowOf i .scaled) (moduleFactor s) (rowOf i .low) (rowOf i .high) (factor-pos s .0) (factor-pos s .1) in
+      (le-trans (b .0) (in-range i h .0), le-trans (in-range i h .1) (b .1))
+
+  -- the n slots from a are all within l to h, where antt computes that their rows are
+  pub in-run : (a n l h : ℕ) → allBelow (λ (j : ℕ). ltb (a + j) 63 && (leb l (rowOf (a + j) .low) && leb (topOf (a + j)) h)) n ≡ true
+      → (j : ℕ) → j < n → (l ≤ slot s (a + j)) × (slot s (a + j) ≤ h)
+  in-run a n l h t j p =
+      let c = every (λ (j : ℕ). ltb (a + j) 63 && (leb l (rowOf (a + j) .low) && leb (topOf (a + j)) h)) n t j p in
+      let i : a + j < 63 = ltb-true _ _ (and-left _ _ c) in
+      let d = and-right (ltb (a + j) 63) _ c in
+      let lo : l ≤ rowOf (a + j) .low = leb-true _ _ (and-left _ _ d) in
+      let hi : topOf (a + j) ≤ h = leb-true _ _ (and-right (leb l (rowOf (a + j) .low)) _ d) in
+      (le-trans lo (in-row (a + j) i .0), le-trans (in-row (a + j) i .1) hi)
+
+  -- T1–T5
+  pub t1-range : (20 ≤ slot s t1) × (slot s t1 ≤ 36000)
+  unfolding rowOf rowIn choose
+  t1-range = in-run t1 1 20 36000 refl 0 (omega arith)
+
+  pub t2-range : (20 ≤ slot s t2) × (slot s t2 ≤ 36000)
+  unfolding rowOf rowIn choose
+  t2-range = in-run t2 1 20 36000 refl 0 (omega arith)
+
+  pub t3-range : (20 ≤ slot s t3) × (slot s t3 ≤ 36000)
+  unfolding rowOf rowIn choose
+  t3-range = in-run t3 1 20 36000 refl 0 (omega arith)
+
+  pub t4-range : (20 ≤ slot s t4) × (slot s t4 ≤ 36000)
+  unfolding rowOf rowIn choose
+  t4-range = in-run t4 1 20 36000 refl 0 (omega arith)
+
+  pub t5-range : (20 ≤ slot s t5) × (slot s t5 ≤ 36000)
+  unfolding rowOf rowIn choose
+  t5-range = in-run t5 1 20 36000 refl 0 (omega arith)
+
+  -- T6, T7
+  pub t6-most : slot s t6 ≤ 36000
+  unfolding rowOf rowIn choose
+  t6-most = in-run t6 1 0 36000 refl 0 (omega arith) .1
+
+  pub t7-most : slot s t7 ≤ 36000
+  unfolding rowOf rowIn choose
+  t7-most = in-run t7 1 0 36000 refl 0 (omega arith) .1
+
+  pub t8-range : (20 ≤ slot s t8) × (slot s t8 ≤ 2000)
+  unfolding rowOf rowIn choose
+  t8-range = in-run t8 1 20 2000 refl 0 (omega arith)
+
+  -- T9–T15
+  pub delay-most : (j : ℕ) → j < 7 → slot s (organDelays + j) ≤ 36000
+  unfolding rowOf rowIn choose
+  delay-most j h = in-run organDelays 7 0 36000 refl j h .1
+
+  -- I_set1 to 3, U_set1 to 4
+  pub limit-range : (j : ℕ) → j < 7 → (50 ≤ slot s (organLimits + j)) × (slot s (organLimits + j) ≤ 200000)
+  unfolding rowOf rowIn choose
+  limit-range j h = in-run organLimits 7 50 200000 refl j h
+
+  pub uSet5-range : (5000 ≤ slot s uSet5) × (slot s uSet5 ≤ 200000)
+  unfolding rowOf rowIn choose
+  uSet5-range = in-run uSet5 1 5000 200000 refl 0 (omega arith)
+
+  pub uSupp-range : (j : ℕ) → j < 4 → (80000 ≤ slot s (uSupp + j)) × (slot s (uSupp + j) ≤ 140000)
+  unfolding rowOf rowIn choose
+  uSupp-range j h = in-run uSupp 4 80000 140000 refl j h
+
+  pub dU-range : (1000 ≤ slot s dU) × (slot s dU ≤ 40000)
+  unfolding rowOf rowIn choose
+  dU-range = in-run dU 1 1000 40000 refl 0 (omega arith)
+
+  pub uComp-range : (1000 ≤ slot s uComp) × (slot s uComp ≤ 40000)
+  unfolding rowOf rowIn choose
+  uComp-range = in-run uComp 1 1000 40000 refl 0 (omega arith)
+
+  pub nStart-most : slot s nStart ≤ 499999
+  unfolding rowOf rowIn choose
+  nStart-most = in-run nStart 1 0 499999 refl 0 (omega arith) .1
+
+  pub nMax-range : (1 ≤ slot s nMax) × (slot s nMax ≤ 500000)
+  unfolding rowOf rowIn choose
+  nMax-range = in-run nMax 1 1 500000 refl 0 (omega arith)
+
+  pub sliding-most : (j : ℕ) → j < 10 → slot s (slidingTaps + j) ≤ 40
+  unfolding rowOf rowIn choose
+  sliding-most j h = in-run slidingTaps 10 0 40 refl j h .1
+
+  -- 1 ≤ N_L < N_R ≤ 40, and N_pos within
+  pub taps-range : (1 ≤ slot s nL) × (slot s nL < slot s nR) × (slot s nR ≤ 40) × (slot s nL ≤ slot s nPos) × (slot s nPos ≤ slot s nR)
+  unfolding rowOf rowIn choose
+  taps-range =
+      (in-run nL 1 1 40 refl 0 (omega arith) .0, kept .ends, in-run nR 1 1 40 refl 0 (omega arith) .1, kept .above, kept .below)

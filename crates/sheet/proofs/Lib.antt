@@ -1,0 +1,7 @@
+pub mod Every
+pub mod Tables
+pub mod First
+pub mod Copies
+pub mod Answers
+pub mod Exact
+pub mod Laws
