@@ -1,0 +1,46 @@
+use Rattle.record.specs.Limits.{motionWithin}
+use borrow.Author.Needs.{needs}
+use Rattle.record.proofs.limits.motion_within.Statement.{statement}
+use Rattle.record.proofs.limits.motion_within.Tie as tie
+
+wait-ticks-requires : tie.Need-wait-ticks-requires
+wait-ticks-requires c κs = search needs
+
+rests-requires : tie.Need-rests-requires
+rests-requires c κs = search needs
+
+element-copy-out-within : tie.Need-element-copy-out-within
+element-copy-out-within c = search needs
+
+element-copy-out-within-2 : tie.Need-element-copy-out-within-2
+element-copy-out-within-2 c = search needs
+
+within-requires : tie.Need-within-requires
+within-requires c κs = search needs
+
+is-fault-requires : tie.Need-is-fault-requires
+is-fault-requires c κs = search needs
+
+element-copy-out-latch-within : tie.Need-element-copy-out-latch-within
+element-copy-out-latch-within c = search needs
+
+latch-within-requires : tie.Need-latch-within-requires
+latch-within-requires c κs = search needs
+
+returns : tie.Need-returns
+unfolding motionWithin
+returns c = cc
+
+pub motion-within-spec : {M : Type 1} → statement M
+motion-within-spec =
+    tie.close
+    (tie.spec
+    wait-ticks-requires
+    rests-requires
+    element-copy-out-within
+    element-copy-out-within-2
+    within-requires
+    is-fault-requires
+    element-copy-out-latch-within
+    latch-within-requires
+    returns)

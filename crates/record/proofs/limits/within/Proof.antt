@@ -1,0 +1,21 @@
+use Rattle.record.specs.Limits.{withinOf}
+use borrow.Author.Needs.{needs}
+use Rattle.record.proofs.limits.within.Statement.{statement}
+use Rattle.record.proofs.limits.within.Tie as tie
+
+passes-requires : tie.Need-passes-requires
+passes-requires c κs = search needs
+
+motion-within-requires : tie.Need-motion-within-requires
+motion-within-requires c κs = search needs
+
+counts-within-requires : tie.Need-counts-within-requires
+counts-within-requires c κs = search needs
+
+returns : tie.Need-returns
+unfolding withinOf
+returns c = cc
+
+pub within-spec : {M : Type 1} → statement M
+within-spec =
+    tie.close (tie.spec passes-requires motion-within-requires counts-within-requires returns)

@@ -1,0 +1,49 @@
+-- The limits of a record (01, 'Limits of a record'). Definitions only.
+use Prim.Native.Nat.{ℕ, _+_}
+use mathlib.Core.Bool.{Bool, true, false, not, _&&_, _||_}
+use mathlib.Core.List.{List, [], _∷_}
+use lib.Dec.{leb, eqb}
+use Rattle.slots.specs.Slots.{slot, t4, t5, t8, organDelays, nL, nR}
+use Rattle.sheet.specs.Sheet.{passesOf}
+use Rattle.organ.specs.declared.Organ.{Organ}
+use Rattle.organ.specs.Limits.{organsWithin}
+use Rattle.drive.specs.declared.Drive.{Drive}
+use Rattle.drive.specs.declared.Latch.{Latch}
+use Rattle.drive.specs.Follow as follow
+use Rattle.drive.specs.Follow.{restsOf}
+use Rattle.drive.specs.Latches.{isFault, latchWithin}
+use Rattle.command.specs.declared.Wait.{Wait}
+use Rattle.command.specs.declared.Wait.the-variants.{Idle, For}
+use Rattle.record.specs.declared.Regulator.{Regulator}
+
+-- the ticks of a wait
+unfoldable pub ticksOf : Wait → ℕ
+ticksOf Idle = 0
+ticksOf (For d n) = n
+
+-- T9–T15, the delays of the seven organs
+unfoldable pub delaysOf : List ℕ → List ℕ
+delaysOf s =
+    slot s organDelays ∷ slot s (organDelays + 1) ∷ slot s (organDelays + 2) ∷ slot s (organDelays + 3) ∷ slot s (organDelays + 4)
+    ∷ slot s (organDelays + 5) ∷ slot s (organDelays + 6) ∷ []
+
+-- "wait at most 35,999 and 0 unless the drive rests; an asked command's age (ticks after its first) below T5; a move's length 1–T4; at
+-- most one fault, and then at rest; fault age .. at most T8, 0 without fault"
+unfoldable pub motionWithin : List ℕ → Drive → Wait → Latch → Bool
+motionWithin s d w l =
+    leb (ticksOf w) 35999 && (restsOf d || eqb (ticksOf w) 0)
+    && follow.withinOf d (slot s t4) (slot s t5)
+    && (not (isFault (l .fault)) || restsOf d)
+    && latchWithin l (slot s t8)
+
+-- "organ count at most its delay, 0 if not marked; counted tap N_L–N_R; operations at most 999,999"
+unfoldable pub countsWithin : List ℕ → List Organ → ℕ → ℕ → Bool
+countsWithin s organs tap operations =
+    organsWithin (delaysOf s) organs && leb (slot s nL) tap && leb tap (slot s nR) && leb operations 999999
+
+-- "settings pass 2 and 3", and the above
+unfoldable pub withinOf : Regulator → Bool
+withinOf r =
+    passesOf (r .settings)
+    && motionWithin (r .settings) (r .drive) (r .wait) (r .latch)
+    && countsWithin (r .settings) (r .organs) (r .«counted_tap») (r .operations)

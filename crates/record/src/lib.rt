@@ -1,0 +1,26 @@
+// The regulator's record: what stands between two ticks. How a sheet starts it, and the limits that an accepted one keeps to.
+pub mod limits;
+pub mod starting;
+
+use command::Buttons;
+use command::Wait;
+use drive::Drive;
+use drive::Latch;
+use drive::Way;
+use organ::Organ;
+use slots::SLOTS;
+
+// `repeat` is the side of the last automatic command, while T2 goes by it; `last` is the last direction; `buttons` are those
+// that were pressed on the previous tick.
+pub struct Regulator {
+    pub settings: [u32; SLOTS],
+    pub organs: [Organ; 7],
+    pub drive: Drive,
+    pub latch: Latch,
+    pub wait: Wait,
+    pub repeat: Way,
+    pub last: Way,
+    pub counted_tap: u32,
+    pub operations: u32,
+    pub buttons: Buttons,
+}

@@ -1,0 +1,79 @@
+// The limits of a record. A record outside them is refused with 4.
+ghost use mathlib.Core.Path.{_≡_};
+ghost use Rattle.record.specs.Limits.{ticksOf, delaysOf, motionWithin, countsWithin, withinOf};
+use crate::Regulator;
+use command::Wait;
+use drive::Drive;
+use drive::Latch;
+use organ::Organ;
+use slots::N_L;
+use slots::N_R;
+use slots::ORGAN_DELAYS;
+use slots::SLOTS;
+use slots::T4;
+use slots::T5;
+use slots::T8;
+
+fn wait_ticks(w: Wait) -> u32
+    ensures { λ r. ⌜ r ≡ ticksOf w ⌝ }
+{
+    match w {
+        Wait::Idle => 0,
+        Wait::For {
+            direction: _,
+            ticks,
+        } => ticks,
+    }
+}
+
+// The delays of the seven organs.
+pub fn organ_delays(s: &[u32; SLOTS]) -> [u32; 7]
+    ensures { λ r. ⌜ r ≡ delaysOf (now (s .entry)) ⌝ }
+{
+    [
+        s[ORGAN_DELAYS],
+        s[ORGAN_DELAYS + 1],
+        s[ORGAN_DELAYS + 2],
+        s[ORGAN_DELAYS + 3],
+        s[ORGAN_DELAYS + 4],
+        s[ORGAN_DELAYS + 5],
+        s[ORGAN_DELAYS + 6],
+    ]
+}
+
+// The drive, the wait and the fault.
+fn motion_within(s: &[u32; SLOTS], d: Drive, w: Wait, l: Latch) -> bool
+    ensures { λ r. ⌜ r ≡ motionWithin (now (s .entry)) d w l ⌝ }
+{
+    let ticks = wait_ticks(w);
+    let rests = drive::follow::rests(d);
+    let moves = drive::follow::within(d, s[T4], s[T5]);
+    let f = l.fault;
+    let fault = drive::latching::is_fault(f);
+    let latched = drive::latching::latch_within(l, s[T8]);
+    (ticks <= 35999) & (rests | (ticks == 0)) & moves & (!fault | rests) & latched
+}
+
+// The organs, the counted tap and the operations.
+fn counts_within(s: &[u32; SLOTS], organs: [Organ; 7], tap: u32, operations: u32) -> bool
+    ensures { λ r. ⌜ r ≡ countsWithin (now (s .entry)) organs tap operations ⌝ }
+{
+    let delays = organ_delays(s);
+    let marks = organ::organs_within(organs, delays);
+    marks & (s[N_L] <= tap) & (tap <= s[N_R]) & (operations <= 999999)
+}
+
+// Whether the record is within its limits.
+pub fn within(r: Regulator) -> bool
+    ensures { λ b. ⌜ b ≡ withinOf r ⌝ }
+{
+    let s = r.settings;
+    let drive = r.drive;
+    let wait = r.wait;
+    let latch = r.latch;
+    let organs = r.organs;
+    let passes = sheet::passes(&s);
+    let motion = motion_within(&s, drive, wait, latch);
+    let counts = counts_within(&s, organs, r.counted_tap, r.operations);
+    passes & motion & counts
+}
