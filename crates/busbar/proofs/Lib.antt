@@ -1,0 +1,4 @@
+pub mod Signed
+pub mod Values
+pub mod Bands
+pub mod Laws

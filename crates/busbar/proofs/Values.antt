@@ -1,0 +1,240 @@
+-- The definitions that go by a reading's kind or by whether a number is missing, as `search` follows them: `search
+-- values`, `search drops`, `search limits`.
+-- Assumes nothing.
+use mathlib.Core.Path.{_≡_, ap}
+use mathlib.Core.Bool.{Bool, false}
+use mathlib.Core.List.{List}
+use Prim.Native.Nat.{ℕ, _+_, _*_, _<_, _≤_, _^_}
+use native.Mathlib.Nat.{le-trans}
+use native.Mathlib.Omega.{arith}
+use borrow.Author.Needs.{needs}
+use lib.Dec.{eqb, ltb, lit<, lit≤}
+use lib.IntN.{ℤ, pos, natAbs, _+ℤ_, _-ℤ_, _*ℤ_}
+use lib.Signed.{ltZ, quotZ}
+use mir.Syntax.{w64}
+use mir.Val.{SFits, toZ}
+use mir.Facts.{toZ-ofZ}
+use Rattle.common.proofs.Cases.{cases, chosen}
+use Rattle.slots.specs.Slots.{slot, dU, uComp, uSet5, moduleKind, compensationCurrent}
+use Rattle.measure.specs.declared.Measured.{Measured}
+use Rattle.measure.specs.declared.Measured.the-variants as measured
+use Rattle.measure.specs.Readings.{AtMost}
+use Rattle.busbar.specs.Section.{goodAbove}
+use Rattle.busbar.specs.Voltage.{goodOf, both, sumOf, differenceOf, currentOf, moduleOf, dropOf, voltageDrop, Within}
+use Rattle.busbar.specs.Deviation.{bandOf, levelOf, farAbove}
+use Rattle.busbar.specs.declared.voltage.Level.{Level}
+use Rattle.busbar.specs.declared.voltage.Level.the-variants as level
+use Rattle.busbar.specs.declared.voltage.Value.{Value}
+use Rattle.busbar.specs.declared.voltage.Value.the-variants.{Missing, Is}
+use Rattle.busbar.proofs.Signed.{natAbs-add, natAbs-sub, Stands, exactly, small, fits, read, back, cast, add, sub, mul, quot}
+
+-- ---- section
+
+module _ (r : Bool) (limit : ℕ) where
+  pub above-good : (m : Measured) (n : ℕ) → m ≡ measured.Good n → r ≡ ltb limit n → r ≡ goodAbove m limit
+  above-good m n p q = rw p q
+
+-- ---- readings
+
+module _ (r : Value) where
+  pub good-good : (m : Measured) (n : ℕ) → m ≡ measured.Good n → r ≡ Is (pos n) → r ≡ goodOf m
+  unfolding goodOf
+  good-good m n p q = rw p q
+
+  pub good-held : (m : Measured) (n : ℕ) → m ≡ measured.Held n → r ≡ Missing → r ≡ goodOf m
+  unfolding goodOf
+  good-held m n p q = rw p q
+
+  pub good-missing : (m : Measured) → m ≡ measured.Missing → r ≡ Missing → r ≡ goodOf m
+  unfolding goodOf
+  good-missing m p q = rw p q
+
+pub is-cast : (n : ℕ) → n < 2 ^ 32 → Is (toZ w64 n) ≡ Is (pos n)
+is-cast n h = ap Is (cast h .is)
+
+-- ---- two numbers, and numbers that are not too large
+
+module _ (r : Value) (f : ℤ → ℤ → ℤ) where
+  pub first-missing : (a b : Value) → a ≡ Missing → r ≡ Missing → r ≡ both f a b
+  unfolding both
+  first-missing a b p q = rw p q
+
+  pub second-missing : (a b : Value) (x : ℤ) → a ≡ Is x → b ≡ Missing → r ≡ Missing → r ≡ both f a b
+  unfolding both
+  second-missing a b x p e q = rw (p, e) q
+
+  pub both-of : (a b x y : Value) → r ≡ both f a b → a ≡ x → b ≡ y → r ≡ both f x y
+  both-of a b x y e p q = cc
+
+within-is : (n : ℕ) (v : Value) (z : ℤ) → v ≡ Is z → Within n v → natAbs z ≤ n
+unfolding Within
+within-is n v z p h = rw p at h
+
+module _ (a b : Value) (x y : ℤ) (p : a ≡ Is x) (q : b ≡ Is y) (h : Within (2 ^ 60) a) (k : Within (2 ^ 60) b) where
+  first : Stands (read x) x (2 ^ 60)
+  first = back (exactly x (within-is (2 ^ 60) a x p h)) tt
+
+  second : Stands (read y) y (2 ^ 60)
+  second = back (exactly y (within-is (2 ^ 60) b y q k)) tt
+
+  pub sum-fits : SFits w64 (read x +ℤ read y)
+  sum-fits = fits (add first second) tt
+
+  pub sum-made : Is (read (read x +ℤ read y)) ≡ sumOf a b
+  unfolding both
+  sum-made = rw (p, q) (ap Is (back (add first second) tt .is))
+
+  pub difference-fits : SFits w64 (read x -ℤ read y)
+  difference-fits = fits (sub first second) tt
+
+  pub difference-made : Is (read (read x -ℤ read y)) ≡ differenceOf a b
+  unfolding both
+  difference-made = rw (p, q) (ap Is (back (sub first second) tt .is))
+
+good-le : (n : ℕ) (m : Measured) → AtMost n m → Within n (goodOf m)
+unfolding AtMost goodOf Within
+good-le n (measured.Good x) h = h
+good-le n (measured.Held x) h = tt
+good-le n measured.Missing h = tt
+
+more : (n m : ℕ) (v : Value) → n ≤ m → Within n v → Within m v
+unfolding Within
+more n m Missing l h = tt
+more n m (Is z) l h = le-trans h l
+
+pub good-within : (r : Value) (m : Measured) → r ≡ goodOf m → AtMost 200000 m → Within (2 ^ 60) r
+good-within r m e h = rw e (more 200000 (2 ^ 60) (goodOf m) (lit≤ tt) (good-le 200000 m h))
+
+both-le : (f : ℤ → ℤ → ℤ) → ((x y : ℤ) → natAbs (f x y) ≤ natAbs x + natAbs y) → (n : ℕ) (a b : Value) → Within n a → Within n b → Within (n + n) (both f a b)
+unfolding both Within
+both-le f l n Missing b h k = tt
+both-le f l n (Is x) Missing h k = tt
+both-le f l n (Is x) (Is y) h k = omega (arith, l x y)
+
+-- |I| is at most the sum of the two currents
+pub current-within : (r : Value) (s : List ℕ) (bus coupler : Measured) → r ≡ currentOf s bus coupler → AtMost 200000 bus → AtMost 200000 coupler → Within 400000 r
+unfolding currentOf
+current-within r s bus coupler e h k =
+    let b = good-le 200000 bus h in
+    let c = good-le 200000 coupler k in
+    rw e
+    (chosen (Within 400000) (eqb (slot s compensationCurrent) 0) _ _ (λ p. more 200000 400000 _ (lit≤ tt) b)
+    (λ p. chosen (Within 400000) (eqb (slot s compensationCurrent) 1) _ _ (λ q. more 200000 400000 _ (lit≤ tt) c)
+    (λ q. chosen (Within 400000) (eqb (slot s compensationCurrent) 2) _ _ (λ o. both-le _-ℤ_ natAbs-sub 200000 _ _ b c)
+    (λ o. both-le _+ℤ_ natAbs-add 200000 _ _ b c))))
+
+-- ---- the drop
+
+module _ (comp : ℕ) (i : ℤ) (k : ℕ) (small-comp : comp < 2 ^ 32) (small-i : natAbs i ≤ 400000) (small-k : k ≤ 5) where
+  product : Stands (toZ w64 comp *ℤ read i) (pos comp *ℤ i) (2 ^ 32 * 400000)
+  product = mul (cast small-comp) (back (exactly i small-i) tt)
+
+  quotient : Stands (quotZ (read (toZ w64 comp *ℤ read i)) (toZ w64 (1000 * k))) (dropOf comp i k) (2 ^ 32 * 400000)
+  unfolding dropOf
+  quotient = quot (back product tt) (cast (omega arith))
+
+  pub product-fits : SFits w64 (toZ w64 comp *ℤ read i)
+  product-fits = fits product tt
+
+  pub quotient-fits : SFits w64 (quotZ (read (toZ w64 comp *ℤ read i)) (toZ w64 (1000 * k)))
+  quotient-fits = fits quotient tt
+
+  pub drop-is : read (quotZ (read (toZ w64 comp *ℤ read i)) (toZ w64 (1000 * k))) ≡ dropOf comp i k
+  drop-is = back quotient tt .is
+
+  pub drop-small : natAbs (read (quotZ (read (toZ w64 comp *ℤ read i)) (toZ w64 (1000 * k)))) ≤ 2 ^ 60
+  drop-small = le-trans (small (back quotient tt)) (lit≤ tt)
+
+pub rating-positive : (r : ℕ) (s : List ℕ) → r ≡ moduleOf s → 0 < r
+unfolding moduleOf
+rating-positive r s e = rw e (chosen (λ (n : ℕ). 0 < n) (eqb (slot s moduleKind) 1) 5 1 (λ p. lit< tt) (λ p. lit< tt))
+
+pub rating-le : (r : ℕ) (s : List ℕ) → r ≡ moduleOf s → r ≤ 5
+unfolding moduleOf
+rating-le r s e = rw e (chosen (λ (n : ℕ). n ≤ 5) (eqb (slot s moduleKind) 1) 5 1 (λ p. lit≤ tt) (λ p. lit≤ tt))
+
+pub current-read : (v : Value) (z : ℤ) → v ≡ Is z → Within 400000 v → natAbs (read z) ≤ 400000
+current-read v z p h = small (back (exactly z (within-is 400000 v z p h)) tt)
+
+module _ (s : List ℕ) (v : Value) where
+  pub drop-missing : v ≡ Missing → Missing ≡ voltageDrop s v
+  unfolding voltageDrop
+  drop-missing p = rw p
+
+  pub drop-made : (z r : ℤ) (k : ℕ) → v ≡ Is z → Within 400000 v → k ≡ moduleOf s → r ≡ dropOf (slot s uComp) (read z) k → natAbs r ≤ 2 ^ 60
+      → Is (read r) ≡ voltageDrop s v
+  unfolding voltageDrop
+  drop-made z r k p h e q l =
+      let here : read z ≡ z = back (exactly z (within-is 400000 v z p h)) tt .is in
+      let there : read r ≡ r = back (exactly r l) tt .is in
+      rw p (cc)
+
+  pub drop-of : (r j : Value) → r ≡ voltageDrop s j → j ≡ v → r ≡ voltageDrop s v
+  drop-of r j e p = cc
+
+pub missing-within : Within (2 ^ 60) Missing
+unfolding Within
+missing-within = tt
+
+pub drop-within : (r : ℤ) → natAbs r ≤ 2 ^ 60 → Within (2 ^ 60) (Is (read r))
+unfolding Within
+drop-within r l = small (back (exactly r l) tt)
+
+-- ---- the level
+
+pub level-missing : (r : Level) (s : List ℕ) (v : Value) (supp : ℕ) → v ≡ Missing → r ≡ level.Missing → r ≡ levelOf s v supp
+unfolding levelOf
+level-missing r s v supp p q = rw p q
+
+pub level-is : (r : Level) (s : List ℕ) (v : Value) (supp : ℕ) (z : ℤ) → v ≡ Is z → SFits w64 z → r ≡ bandOf (read z) supp (slot s dU) → r ≡ levelOf s v supp
+unfolding levelOf
+level-is r s v supp z p f q = rw p (cc (toZ-ofZ f))
+
+pub above-test : (u : ℤ) (limit : ℕ) → SFits w64 u → limit < 2 ^ 32 → ltZ (toZ w64 limit) (read u) ≡ ltZ (pos limit) u
+above-test u limit f h = cc (toZ-ofZ f, cast h .is)
+
+module _ (r : Bool) (s : List ℕ) (v : Value) where
+  pub far-missing : v ≡ Missing → r ≡ false → r ≡ farAbove s v
+  unfolding farAbove
+  far-missing p q = rw p q
+
+  pub far-is : (z : ℤ) → v ≡ Is z → SFits w64 z → r ≡ ltZ (pos (slot s uSet5)) (read z) → r ≡ farAbove s v
+  unfolding farAbove
+  far-is z p f q = rw p (cc (toZ-ofZ f))
+
+-- readings and what is computed of them
+pub ruleset values = (
+  good-good,
+  good-held,
+  good-missing,
+  is-cast,
+  first-missing,
+  second-missing,
+  both-of,
+  sum-fits,
+  sum-made,
+  difference-fits,
+  difference-made,
+  good-within,
+  current-within,
+  drop-of,
+  cases,
+)
+
+pub ruleset drops = (
+  product-fits,
+  quotient-fits,
+  drop-is,
+  drop-small,
+  rating-positive,
+  rating-le,
+  current-read,
+  drop-missing,
+  drop-made,
+  missing-within,
+  drop-within,
+  needs,
+)
+
+-- a number against a limit
+pub ruleset limits = (above-good, level-missing, level-is, above-test, far-missing, far-is, needs)

@@ -1,0 +1,29 @@
+use Rattle.busbar.proofs.Values.{values}
+use borrow.Author.Needs.{needs}
+use Rattle.busbar.proofs.voltage.good.Statement.{statement}
+use Rattle.busbar.proofs.voltage.good.Tie as tie
+
+enum-known-m : tie.Need-enum-known-m
+enum-known-m c = search needs
+
+cast-t4 : tie.Need-cast-t4
+cast-t4 c = search needs
+
+enum-told : tie.Need-enum-told
+enum-told c = search needs
+
+enum-told-2 : tie.Need-enum-told-2
+enum-told-2 c = search needs
+
+returns : tie.Need-returns
+returns c = search values
+
+returns-2 : tie.Need-returns-2
+returns-2 c = search values
+
+returns-3 : tie.Need-returns-3
+returns-3 c = search values
+
+pub good-spec : {M : Type 1} → statement M
+good-spec =
+    tie.close (tie.spec enum-known-m cast-t4 enum-told enum-told-2 returns returns-2 returns-3)

@@ -1,0 +1,37 @@
+use Rattle.busbar.proofs.Values.{drops}
+use borrow.Author.Needs.{needs}
+use Rattle.busbar.proofs.voltage.voltage_drop.Statement.{statement}
+use Rattle.busbar.proofs.voltage.voltage_drop.Tie as tie
+
+enum-told : tie.Need-enum-told
+enum-told c = search needs
+
+enum-known-i : tie.Need-enum-known-i
+enum-known-i c = search needs
+
+element-copy-out-drop-at : tie.Need-element-copy-out-drop-at
+element-copy-out-drop-at c = search needs
+
+module-rating-requires : tie.Need-module-rating-requires
+module-rating-requires c κs = search needs
+
+drop-at-requires : tie.Need-drop-at-requires
+drop-at-requires c κs = search drops
+
+returns : tie.Need-returns
+returns c = search drops
+
+returns-2 : tie.Need-returns-2
+returns-2 c = search drops
+
+pub voltage-drop-spec : {M : Type 1} → statement M
+voltage-drop-spec =
+    tie.close
+    (tie.spec
+    enum-told
+    enum-known-i
+    element-copy-out-drop-at
+    module-rating-requires
+    drop-at-requires
+    returns
+    returns-2)

@@ -1,0 +1,4 @@
+pub mod Section
+pub mod Voltage
+pub mod Deviation
+pub mod Stars

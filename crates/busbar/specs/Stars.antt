@@ -1,0 +1,73 @@
+-- The worked values of rule 6, as one list and one statement (01, 'Bench values'; the last rows go beyond the paper's).
+use mathlib.Core.Path.{_≡_, refl}
+use mathlib.Core.Bool.{false}
+use mathlib.Core.List.{List, [], _∷_, map}
+use Prim.Native.Nat.{ℕ}
+use lib.IntN.{ℤ, pos, negsuc}
+use lib.ListN.{set, replicate}
+use Rattle.common.specs.Choice.{choose}
+use Rattle.slots.specs.Slots.{slots, moduleKind, compensation, compensationCurrent, uSupp, dU, uComp}
+use Rattle.measure.specs.declared.Measured.{Measured}
+use Rattle.measure.specs.declared.Measured.the-variants.{Good, Held}
+use Rattle.busbar.specs.Voltage.{goodOf, both, currentOf, moduleOf, dropOf, voltageDrop, voltageOf}
+use Rattle.busbar.specs.Deviation.{supplyOf, lowOf, highOf, bandOf, levelOf}
+use Rattle.busbar.specs.declared.voltage.Level.{Level}
+use Rattle.busbar.specs.declared.voltage.Level.the-variants.{Low, InBand, High}
+use Rattle.busbar.specs.declared.voltage.Value.{Value}
+use Rattle.busbar.specs.declared.voltage.Value.the-variants.{Missing, Is}
+
+-- a slot and its number
+infix 50 _is_
+pub data Entry : Type 0 where
+  _is_ : ℕ → ℕ → Entry
+
+-- a sheet of zeros but for the entries
+abbrev pub sheet : List Entry → List ℕ
+sheet [] = replicate slots 0
+sheet ((i is n) ∷ rest) = set (sheet rest) i n
+
+-- U_supp, dU and U, and U's level
+-- U_comp, the module's slot and I, and the drop
+-- U_comp, the module's slot, U_AB, I_bus and I_coupler with I their difference, and U
+pub data Star : Type 0 where
+  levelStar : ℕ → ℕ → ℕ → Level → Star
+  dropStar : ℕ → ℕ → ℤ → ℤ → Star
+  voltageStar : ℕ → ℕ → Measured → Measured → Measured → Value → Star
+
+abbrev pub stars : List Star
+stars =
+    levelStar 100000 2000 99000 Low
+    ∷ levelStar 100000 2000 99001 InBand
+    ∷ levelStar 100000 2000 100999 InBand
+    ∷ levelStar 100000 2000 101000 High
+    ∷ dropStar 5100 1 (negsuc 2) (negsuc 2)
+    ∷ voltageStar 5100 1 (Good 100000) (Good 1) (Good 4) (Is (pos 100003))
+    ∷ voltageStar 5100 1 (Good 100000) (Good 4) (Good 1) (Is (pos 99997))
+    ∷ voltageStar 5100 0 (Good 100000) (Good 1) (Good 4) (Is (pos 100015))
+    ∷ voltageStar 5100 1 (Held 100000) (Good 1) (Good 4) Missing
+    ∷ voltageStar 5100 1 (Good 100000) (Good 1) (Held 4) Missing
+    ∷ []
+
+pub data Shown : Type 0 where
+  isLevel : Level → Shown
+  isValue : Value → Shown
+
+abbrev pub expected : Star → Shown
+expected (levelStar supp d u l) = isLevel l
+expected (dropStar comp kind i z) = isValue (Is z)
+expected (voltageStar comp kind ab bus coupler u) = isValue u
+
+abbrev pub levelSheet : ℕ → ℕ → List ℕ
+levelSheet supp d = sheet ((uSupp is supp) ∷ (dU is d) ∷ [])
+
+abbrev pub dropSheet : ℕ → ℕ → List ℕ
+dropSheet comp kind = sheet ((uComp is comp) ∷ (moduleKind is kind) ∷ (compensation is 1) ∷ (compensationCurrent is 2) ∷ [])
+
+abbrev pub found : Star → Shown
+found (levelStar supp d u l) = isLevel (levelOf (levelSheet supp d) (Is (pos u)) (supplyOf (levelSheet supp d) false false false))
+found (dropStar comp kind i z) = isValue (voltageDrop (dropSheet comp kind) (Is i))
+found (voltageStar comp kind ab bus coupler u) = isValue (voltageOf (dropSheet comp kind) ab bus coupler)
+
+pub stars-are : map found stars ≡ map expected stars
+unfolding choose goodOf both currentOf moduleOf dropOf voltageDrop voltageOf supplyOf lowOf highOf bandOf levelOf
+stars-are = refl

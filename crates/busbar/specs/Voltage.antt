@@ -1,0 +1,60 @@
+-- Rule 6 of 01: the voltage U. Definitions only.
+use Prim.Native.Nat.{ℕ, _*_, _≤_}
+use mathlib.Core.List.{List}
+use lib.Dec.{eqb}
+use lib.IntN.{ℤ, pos, natAbs, _+ℤ_, _-ℤ_, _*ℤ_}
+use lib.Signed.{quotZ}
+use Rattle.common.specs.Choice.{choose}
+use Rattle.slots.specs.Slots.{slot, moduleKind, compensation, compensationCurrent, uComp}
+use Rattle.measure.specs.declared.Measured.{Measured}
+use Rattle.measure.specs.declared.Measured.the-variants as measured
+use Rattle.busbar.specs.declared.voltage.Value.{Value}
+use Rattle.busbar.specs.declared.voltage.Value.the-variants.{Missing, Is}
+
+-- the number of a Good reading, which is "missing or Held" otherwise
+unfoldable pub goodOf : Measured → Value
+goodOf (measured.Good n) = Is (pos n)
+goodOf (measured.Held n) = Missing
+goodOf measured.Missing = Missing
+
+-- of two numbers, each of which is needed
+unfoldable pub both : (ℤ → ℤ → ℤ) → Value → Value → Value
+both f Missing b = Missing
+both f (Is x) Missing = Missing
+both f (Is x) (Is y) = Is (f x y)
+
+abbrev pub sumOf : Value → Value → Value
+sumOf a b = both _+ℤ_ a b
+
+abbrev pub differenceOf : Value → Value → Value
+differenceOf a b = both _-ℤ_ a b
+
+-- slot 4: "0 bus, 1 coupler, 2 bus − coupler, 3 bus + coupler"; no taken sheet has another number there
+unfoldable pub currentOf : List ℕ → Measured → Measured → Value
+currentOf s bus coupler =
+    choose (eqb (slot s compensationCurrent) 0) (goodOf bus)
+    (choose (eqb (slot s compensationCurrent) 1) (goodOf coupler)
+    (choose (eqb (slot s compensationCurrent) 2) (differenceOf (goodOf bus) (goodOf coupler))
+    (sumOf (goodOf bus) (goodOf coupler))))
+
+-- "k is 1 if slot 1 is 0 (1 A module), 5 if it is 1 (5 A)"
+unfoldable pub moduleOf : List ℕ → ℕ
+moduleOf s = choose (eqb (slot s moduleKind) 1) 5 1
+
+-- "U_comp × I ÷ (1,000k), rounded toward zero"
+unfoldable pub dropOf : ℕ → ℤ → ℕ → ℤ
+dropOf comp i k = quotZ (pos comp *ℤ i) (pos (1000 * k))
+
+unfoldable pub voltageDrop : List ℕ → Value → Value
+voltageDrop s Missing = Missing
+voltageDrop s (Is i) = Is (dropOf (slot s uComp) i (moduleOf s))
+
+-- "Good U_AB, less U_comp × I ÷ (1,000k), rounded toward zero, if slot 3 is 1"
+unfoldable pub voltageOf : List ℕ → Measured → Measured → Measured → Value
+voltageOf s ab bus coupler =
+    choose (eqb (slot s compensation) 1) (differenceOf (goodOf ab) (voltageDrop s (currentOf s bus coupler))) (goodOf ab)
+
+-- a number's magnitude is not above n
+unfoldable pub Within : ℕ → Value → Type 0
+Within n Missing = Unit
+Within n (Is z) = natAbs z ≤ n
