@@ -2,8 +2,8 @@
 -- Assumes nothing.
 use mathlib.Core.Path.{_≡_, refl, sym, ap, _∙_}
 use mathlib.Core.Bool.{Bool, true, false, not}
-use Prim.Native.Nat.{ℕ, _+_, _*_, _<_, _^_}
-use native.Mathlib.Nat.{lt-of-le-of-lt}
+use Prim.Native.Nat.{ℕ, _+_, _*_, _<_, _≤_, _^_}
+use native.Mathlib.Nat.{le-refl, lt-of-le-of-lt}
 use borrow.Author.Needs.{needs}
 use lib.IntN.{ℤ, pos, _+ℤ_, _-ℤ_, _*ℤ_}
 use lib.Signed.{leZ, shrZ, mag-shr}
@@ -13,7 +13,7 @@ use mir.Facts.{toZ-ofZ}
 use Rattle.common.proofs.Cases.{yes, no}
 use Rattle.busbar.specs.Deviation.{lowOf, highOf, bandOf}
 use Rattle.busbar.specs.declared.voltage.Level.the-variants.{Low, InBand, High}
-use Rattle.busbar.proofs.Signed.{Stands, literal, fits, read, back, cast, add, sub, mul, half-le, least}
+use Rattle.busbar.proofs.Signed.{Stands, exactly, literal, fits, read, back, cast, add, sub, mul, half-le, least}
 
 -- u and the half of n, as they are read back
 pub half-test : (u n : ℤ) → SFits w64 u → SFits w64 n → leZ (read u) (read (shrZ (read n) 2)) ≡ leZ (pos 2 *ℤ u) n
@@ -31,8 +31,8 @@ module _ (supp d : ℕ) (small-supp : supp < 2 ^ 32) (small-d : d < 2 ^ 32) wher
   upper : Stands (read (pos 2 *ℤ toZ w64 supp) +ℤ toZ w64 d) (pos 2 *ℤ pos supp +ℤ pos d) (2 * 2 ^ 32 + 2 ^ 32)
   upper = add (back middle tt) (cast small-d)
 
-  below-upper : Stands (read (read (pos 2 *ℤ toZ w64 supp) +ℤ toZ w64 d) -ℤ pos 1) (pos 2 *ℤ pos supp +ℤ pos d -ℤ pos 1) (2 * 2 ^ 32 + 2 ^ 32 + 1)
-  below-upper = sub (back upper tt) (literal 1)
+  below-upper : (n : ℕ) → n ≤ 1 → Stands (read (read (pos 2 *ℤ toZ w64 supp) +ℤ toZ w64 d) -ℤ pos n) (pos 2 *ℤ pos supp +ℤ pos d -ℤ pos n) (2 * 2 ^ 32 + 2 ^ 32 + 1)
+  below-upper n h = sub (back upper tt) (exactly (pos n) h)
 
   pub middle-fits : SFits w64 (pos 2 *ℤ toZ w64 supp)
   middle-fits = fits middle tt
@@ -43,8 +43,8 @@ module _ (supp d : ℕ) (small-supp : supp < 2 ^ 32) (small-d : d < 2 ^ 32) wher
   pub upper-fits : SFits w64 (read (pos 2 *ℤ toZ w64 supp) +ℤ toZ w64 d)
   upper-fits = fits upper tt
 
-  pub below-upper-fits : SFits w64 (read (read (pos 2 *ℤ toZ w64 supp) +ℤ toZ w64 d) -ℤ pos 1)
-  below-upper-fits = fits below-upper tt
+  pub below-upper-fits : (n : ℕ) → n ≤ 1 → SFits w64 (read (read (pos 2 *ℤ toZ w64 supp) +ℤ toZ w64 d) -ℤ pos n)
+  below-upper-fits n h = fits (below-upper n h) tt
 
   module _ (u : ℤ) (fu : SFits w64 u) (t : Bool) where
     pub low-test : t ≡ leZ (pos 2 *ℤ read u) (read (read (pos 2 *ℤ toZ w64 supp) -ℤ toZ w64 d)) → t ≡ lowOf u supp d
@@ -54,7 +54,7 @@ module _ (supp d : ℕ) (small-supp : supp < 2 ^ 32) (small-d : d < 2 ^ 32) wher
     pub high-test : t ≡ leZ (pos 2 *ℤ read u) (read (read (read (pos 2 *ℤ toZ w64 supp) +ℤ toZ w64 d) -ℤ pos 1)) → not t ≡ highOf u supp d
     unfolding highOf
     high-test e =
-        let f : leZ (pos 2 *ℤ u) (pos 2 *ℤ pos supp +ℤ pos d -ℤ pos 1) ≡ t = cc (toZ-ofZ fu, back below-upper tt .is) in
+        let f : leZ (pos 2 *ℤ u) (pos 2 *ℤ pos supp +ℤ pos d -ℤ pos 1) ≡ t = cc (toZ-ofZ fu, back (below-upper 1 (le-refl 1)) tt .is) in
         sym (least (pos 2 *ℤ pos supp +ℤ pos d) (pos 2 *ℤ u) ∙ ap not f)
 
 -- the level by the two tests

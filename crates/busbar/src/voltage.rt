@@ -22,6 +22,7 @@ pub enum Value {
     Is(i64),
 }
 
+// How a voltage stands to the band around U_supp.
 pub enum Level {
     Missing,
     Low,
@@ -40,6 +41,7 @@ fn good(m: Measured) -> Value
     }
 }
 
+// The sum of two numbers, missing if either is. The bound, far above what occurs, keeps it within an i64.
 fn sum(a: Value, b: Value) -> Value
     requires { ⌜ Within (2 ^ 60) a × Within (2 ^ 60) b ⌝ }
     ensures { λ r. ⌜ r ≡ sumOf a b ⌝ }
@@ -53,6 +55,7 @@ fn sum(a: Value, b: Value) -> Value
     }
 }
 
+// The difference of two numbers, missing if either is.
 fn difference(a: Value, b: Value) -> Value
     requires { ⌜ Within (2 ^ 60) a × Within (2 ^ 60) b ⌝ }
     ensures { λ r. ⌜ r ≡ differenceOf a b ⌝ }
@@ -66,7 +69,7 @@ fn difference(a: Value, b: Value) -> Value
     }
 }
 
-// The current I of the compensation, which slot 4 picks.
+// The current I of the compensation, which slot 4 picks; only the readings that it names are needed.
 fn current(s: &[u32; SLOTS], i_bus: Measured, i_coupler: Measured) -> Value
     requires { ⌜ AtMost 200000 «i_bus» × AtMost 200000 «i_coupler» ⌝ }
     ensures { λ r. ⌜ r ≡ currentOf (now (s .entry)) «i_bus» «i_coupler» ⌝ }
@@ -101,7 +104,7 @@ fn drop_at(u_comp: u32, i: i64, k: u32) -> i64
     (u_comp as i64) * i / ((1000 * k) as i64)
 }
 
-// The drop by U_comp.
+// The drop by U_comp, missing if I is.
 fn voltage_drop(s: &[u32; SLOTS], i: Value) -> Value
     requires { ⌜ Within 400000 i ⌝ }
     ensures { λ r. ⌜ (r ≡ voltageDrop (now (s .entry)) i) × Within (2 ^ 60) r ⌝ }
@@ -112,7 +115,7 @@ fn voltage_drop(s: &[u32; SLOTS], i: Value) -> Value
     }
 }
 
-// The voltage U.
+// The voltage U: U_AB, less the drop if slot 3 is 1.
 pub fn voltage(s: &[u32; SLOTS], u_ab: Measured, i_bus: Measured, i_coupler: Measured) -> Value
     requires { ⌜ AtMost 200000 «u_ab» × (AtMost 200000 «i_bus» × AtMost 200000 «i_coupler») ⌝ }
     ensures { λ r. ⌜ r ≡ voltageOf (now (s .entry)) «u_ab» «i_bus» «i_coupler» ⌝ }
@@ -174,6 +177,7 @@ fn band_level(u: i64, u_supp: u32, d_u: u32) -> Level
     }
 }
 
+// How U stands to the band.
 pub fn judge_level(s: &[u32; SLOTS], u: Value, u_supp: u32) -> Level
     ensures { λ r. ⌜ r ≡ levelOf (now (s .entry)) u «u_supp» ⌝ }
 {

@@ -1,0 +1,27 @@
+use borrow.Author.Needs.{needs}
+use Rattle.regulator.proofs.sense.Statement.{statement}
+use Rattle.regulator.proofs.sense.Tie as tie
+use Rattle.regulator.proofs.sense.Reads as reads
+use Rattle.regulator.proofs.sense.Lts as lts
+use Rattle.stages.proofs.assessing.assess.Reads as assess-reads
+use Rattle.stages.proofs.observing.observe.Reads as observe-reads
+use Rattle.stages.proofs.protecting.protect.Reads as protect-reads
+
+-- src/lib.rt:56:9
+observe-requires : tie.Need-observe-requires
+observe-requires c κs = search needs
+
+-- src/lib.rt:58:9
+protect-requires : tie.Need-protect-requires
+protect-requires c κs = search needs
+
+-- src/lib.rt:59:9
+assess-requires : tie.Need-assess-requires
+assess-requires c κs = ?
+
+-- src/lib.rt:51:1
+returns : tie.Need-returns
+returns c = ?
+
+pub sense-spec : {M : Type 1} → statement M
+sense-spec = tie.close (tie.spec observe-requires protect-requires assess-requires returns)

@@ -1,0 +1,209 @@
+// One tick of the regulator, by value: the rules in the paper's order.
+ghost use mathlib.Core.Path.{_≡_};
+ghost use mathlib.Core.Bool.{true};
+ghost use Rattle.record.specs.Limits.{withinOf};
+ghost use Rattle.regulator.specs.Ticks.{sensedOf, actedOf, ranOf, outOf, refusedOf, tickOf};
+use blocks::Blocks;
+use command::Buttons;
+use input::Contacts;
+use input::Input;
+use organ::Organs;
+use record::Regulator;
+use slots::IN_SERVICE;
+use slots::SLOTS;
+use stages::accounting::Accounted;
+use stages::assessing::Assessed;
+use stages::commanding::Memory;
+use stages::commanding::Regulated;
+use stages::observing::Observed;
+use stages::showing::FIELDS;
+use stages::showing::Shown;
+use stages::supervising::Supervised;
+
+// What a tick answers: 0, or the refusal 4 with outputs all 0.
+pub struct Reply {
+    pub refusal: u32,
+    pub outputs: [u32; FIELDS],
+}
+
+// The answer, and the next record; a refused record is left as it was.
+pub struct Ticked {
+    pub reply: Reply,
+    pub next: Regulator,
+}
+
+// Rules 3 to 6.
+struct Sensed {
+    observed: Observed,
+    organs: Organs,
+    assessed: Assessed,
+}
+
+// Rules 2 and 7 to 9.
+struct Acted {
+    supervised: Supervised,
+    blocks: Blocks,
+    regulated: Regulated,
+    accounted: Accounted,
+}
+
+// Rules 3 to 6.
+fn sense(r: Regulator, i: Input, c: Contacts) -> Sensed
+    ensures { λ x. ⌜ x ≡ sensedOf r i c ⌝ }
+{
+    let s = r.settings;
+    let before = r.organs;
+    let observed = stages::observing::observe(&s, i, c.breaker_closed, r.counted_tap);
+    let readings = observed.readings;
+    let organs = stages::protecting::protect(&s, before, readings, observed.section);
+    let assessed = stages::assessing::assess(&s, readings, c);
+    Sensed {
+        observed: observed,
+        organs: organs,
+        assessed: assessed,
+    }
+}
+
+// Rules 2 and 7 to 9.
+fn act(r: Regulator, c: Contacts, x: Sensed) -> Acted
+    ensures { λ y. ⌜ y ≡ actedOf r c x ⌝ }
+{
+    let s = r.settings;
+    let drive = r.drive;
+    let latch = r.latch;
+    let last = r.last;
+    let observed = x.observed;
+    let position = observed.position;
+    let organs = x.organs;
+    let trips = organs.trips;
+    let assessed = x.assessed;
+    let level = assessed.level;
+    let supervised = stages::supervising::supervise(&s, c, position.tap, drive, latch, last);
+    let latched = supervised.latch;
+    let fault = latched.fault;
+    let blocks = stages::commanding::block(&s, c, fault, observed.section, level, trips, position.tap);
+    let wait = r.wait;
+    let repeat = r.repeat;
+    let buttons = r.buttons;
+    let m = Memory {
+        drive: drive,
+        wait: wait,
+        repeat: repeat,
+        buttons: buttons,
+    };
+    let followed = supervised.drive;
+    let regulated = stages::commanding::regulate(&s, c, assessed, blocks, m, followed);
+    let ended = supervised.ended;
+    let accounted = stages::accounting::account(&s, ended, last, r.operations, r.counted_tap);
+    Acted {
+        supervised: supervised,
+        blocks: blocks,
+        regulated: regulated,
+        accounted: accounted,
+    }
+}
+
+// Rules 2 to 10, on a record in service.
+fn live(r: Regulator, i: Input, c: Contacts) -> Ticked
+    ensures { λ t. ⌜ t ≡ ranOf r i c ⌝ }
+{
+    let x = sense(r, i, c);
+    let y = act(r, c, x);
+    let settings = r.settings;
+    let observed = x.observed;
+    let position = observed.position;
+    let stepped = x.organs;
+    let organs = stepped.organs;
+    let trips = stepped.trips;
+    let assessed = x.assessed;
+    let level = assessed.level;
+    let supervised = y.supervised;
+    let latch = supervised.latch;
+    let blocks = y.blocks;
+    let regulated = y.regulated;
+    let drive = regulated.drive;
+    let wait = regulated.wait;
+    let repeat = regulated.repeat;
+    let accounted = y.accounted;
+    let last = accounted.last;
+    let shown = Shown {
+        automatic: c.automatic,
+        section: observed.section,
+        position: position,
+        counted_error: accounted.range_error,
+        trips: trips,
+        blocks: blocks,
+        level: level,
+        latch: latch,
+        before: supervised.before,
+        drive: drive,
+        operations: accounted.operations,
+    };
+    let outputs = stages::showing::show(&settings, shown);
+    Ticked {
+        reply: Reply {
+            refusal: 0,
+            outputs: outputs,
+        },
+        next: Regulator {
+            settings: settings,
+            organs: organs,
+            drive: drive,
+            latch: latch,
+            wait: wait,
+            repeat: repeat,
+            last: last,
+            counted_tap: accounted.tap,
+            operations: accounted.operations,
+            buttons: Buttons {
+                raise: c.raise_button,
+                lower: c.lower_button,
+            },
+        },
+    }
+}
+
+// Rule 1: the record becomes the fresh one, all outputs 0.
+fn out_of_service(r: Regulator) -> Ticked
+    ensures { λ t. ⌜ t ≡ outOf r ⌝ }
+{
+    let settings = r.settings;
+    let next = record::starting::fresh(settings);
+    Ticked {
+        reply: Reply {
+            refusal: 0,
+            outputs: [0u32; FIELDS],
+        },
+        next: next,
+    }
+}
+
+// Refusal 4.
+fn refused(r: Regulator) -> Ticked
+    ensures { λ t. ⌜ t ≡ refusedOf r ⌝ }
+{
+    Ticked {
+        reply: Reply {
+            refusal: 4,
+            outputs: [0u32; FIELDS],
+        },
+        next: r,
+    }
+}
+
+// One tick.
+fn tick(r: Regulator, i: Input) -> Ticked
+    ensures each { λ t. ⌜ t ≡ tickOf r i ⌝ }
+    ensures lasting { λ t. ⌜ withinOf (t .next) ≡ withinOf r ⌝ }
+{
+    if record::limits::within(r) {
+        let c = input::decode_contacts(i.contacts);
+        if (r.settings[IN_SERVICE] == 0) | c.out {
+            out_of_service(r)
+        } else {
+            live(r, i, c)
+        }
+    } else {
+        refused(r)
+    }
+}
