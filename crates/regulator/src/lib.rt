@@ -81,7 +81,15 @@ fn act(r: Regulator, c: Contacts, x: Sensed) -> Acted
     let supervised = stages::supervising::supervise(&s, c, position.tap, drive, latch, last);
     let latched = supervised.latch;
     let fault = latched.fault;
-    let blocks = stages::commanding::block(&s, c, fault, observed.section, level, trips, position.tap);
+    let blocks = stages::commanding::block(
+        &s,
+        c,
+        fault,
+        observed.section,
+        level,
+        trips,
+        position.tap,
+    );
     let wait = r.wait;
     let repeat = r.repeat;
     let buttons = r.buttons;

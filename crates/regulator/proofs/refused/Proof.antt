@@ -1,11 +1,10 @@
+use Rattle.regulator.specs.Ticks.{refusedOf}
 use Rattle.regulator.proofs.refused.Statement.{statement}
 use Rattle.regulator.proofs.refused.Tie as tie
-use Rattle.regulator.proofs.refused.Reads as reads
-use Rattle.regulator.proofs.refused.Lts as lts
 
--- src/lib.rt:182:1
 returns : tie.Need-returns
-returns c = ?
+unfolding refusedOf
+returns c = cc
 
 pub refused-spec : {M : Type 1} → statement M
 refused-spec = tie.close (tie.spec returns)

@@ -1,3 +1,4 @@
+use Rattle.regulator.proofs.Made.{bounded, sense-made}
 use borrow.Author.Needs.{needs}
 use Rattle.regulator.proofs.sense.Statement.{statement}
 use Rattle.regulator.proofs.sense.Tie as tie
@@ -17,11 +18,11 @@ protect-requires c κs = search needs
 
 -- src/lib.rt:59:9
 assess-requires : tie.Need-assess-requires
-assess-requires c κs = ?
+assess-requires c κs = search bounded
 
 -- src/lib.rt:51:1
 returns : tie.Need-returns
-returns c = ?
+returns c = search sense-made
 
 pub sense-spec : {M : Type 1} → statement M
 sense-spec = tie.close (tie.spec observe-requires protect-requires assess-requires returns)

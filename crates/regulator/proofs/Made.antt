@@ -1,0 +1,85 @@
+-- The stages make the tick: each law is over plain values, as the functions have them, and `search` finds it.
+-- Assumes nothing.
+use mathlib.Core.Path.{_≡_}
+use mathlib.Core.Bool.{Bool, true, false}
+use mathlib.Core.List.{List}
+use Prim.Native.Nat.{ℕ}
+use lib.Dec.{eqb}
+use Rattle.measure.specs.Readings.{AtMost}
+use Rattle.measure.specs.declared.Channel.the-variants.{Voltage}
+use Rattle.busbar.proofs.Laws.{reading-at-most}
+use Rattle.slots.specs.Slots.{slot, moduleKind}
+use Rattle.input.specs.declared.Contacts.{Contacts}
+use Rattle.input.specs.declared.Input.{Input}
+use Rattle.input.specs.Brought.{readingsOf, currentOf}
+use Rattle.organ.specs.declared.Organs.{Organs}
+use Rattle.blocks.specs.declared.Blocks.{Blocks}
+use Rattle.record.specs.declared.Regulator.{Regulator}
+use Rattle.stages.specs.declared.accounting.Accounted.{Accounted}
+use Rattle.stages.specs.declared.assessing.Assessed.{Assessed}
+use Rattle.stages.specs.declared.commanding.Regulated.{Regulated}
+use Rattle.stages.specs.declared.observing.Observed.{Observed}
+use Rattle.stages.specs.declared.supervising.Supervised.{Supervised}
+use Rattle.stages.specs.Observing.{observedOf}
+use Rattle.stages.specs.Protecting.{protectedOf}
+use Rattle.stages.specs.Assessing.{assessedOf}
+use Rattle.stages.specs.Supervising.{supervisedOf}
+use Rattle.stages.specs.Commanding.{blockedOf, regulatedOf}
+use Rattle.stages.specs.Accounting.{accountedOf}
+use Rattle.stages.specs.Showing.{outputsOf}
+use Rattle.regulator.specs.declared.Acted.{Acted}
+use Rattle.regulator.specs.declared.Sensed.{Sensed}
+use Rattle.regulator.specs.declared.Ticked.{Ticked}
+use Rattle.regulator.specs.Ticks.{observedIn, protectedIn, assessedIn, sensedOf, supervisedIn, blockedIn, memoryOf, regulatedIn, accountedIn, actedOf, shownOf, nextOf, endOf, ranOf}
+
+-- the readings are bounded, as rule 6 asks
+pub bounded : (s : List ℕ) (i : Input) (closed : Bool) (counted : ℕ) {o : Observed} → o ≡ observedOf s i closed counted
+    → AtMost 200000 (o .readings .«u_ab») × (AtMost 200000 (o .readings .«i_bus») × AtMost 200000 (o .readings .«i_coupler»))
+unfolding observedOf readingsOf
+bounded s i closed counted e =
+    rw e
+    (reading-at-most Voltage (i .«u_ab»), (reading-at-most (currentOf (eqb (slot s moduleKind) 1)) (i .«i_bus»), reading-at-most (currentOf (eqb (slot s moduleKind) 1)) (i .«i_coupler»)))
+
+module _ (r : Regulator) (i : Input) (c : Contacts) where
+  pub sense-made : {o : Observed} {g : Organs} {a : Assessed}
+      → o ≡ observedOf (r .settings) i (c .«breaker_closed») (r .«counted_tap»)
+      → g ≡ protectedOf (r .settings) (r .organs) (o .readings) (o .section)
+      → a ≡ assessedOf (r .settings) (o .readings) c
+      → _≡_ {A = Sensed} (record { observed = o; organs = g; assessed = a }) (sensedOf r i c)
+  unfolding sensedOf observedIn protectedIn assessedIn
+  sense-made p q u = rw (← p, q, u)
+
+  pub live-made : {x : Sensed} {y : Acted} {outputs : List ℕ}
+      → x ≡ sensedOf r i c
+      → y ≡ actedOf r c x
+      → outputs ≡ outputsOf (r .settings) (shownOf c x y)
+      → _≡_ {A = Ticked}
+      (record {
+        reply = record { refusal = 0; outputs = outputs };
+        next =
+            record {
+              settings = r .settings;
+              organs = x .organs .organs;
+              drive = y .regulated .drive;
+              latch = y .supervised .latch;
+              wait = y .regulated .wait;
+              repeat = y .regulated .repeat;
+              last = y .accounted .last;
+              «counted_tap» = y .accounted .tap;
+              operations = y .accounted .operations;
+              buttons = record { raise = c .«raise_button»; lower = c .«lower_button» };
+            };
+      })
+      (ranOf r i c)
+  unfolding ranOf endOf nextOf
+  live-made p q u = rw (← p, ← q, u)
+
+module _ (r : Regulator) (c : Contacts) (x : Sensed) where
+  pub act-made : {v : Supervised} {b : Blocks} {g : Regulated} {a : Accounted}
+      → v ≡ supervisedOf (r .settings) c (x .observed .position .tap) (r .drive) (r .latch) (r .last)
+      → b ≡ blockedOf (r .settings) c (v .latch .fault) (x .observed .section) (x .assessed .level) (x .organs .trips) (x .observed .position .tap)
+      → g ≡ regulatedOf (r .settings) c (x .assessed) b (memoryOf r) (v .drive)
+      → a ≡ accountedOf (r .settings) (v .ended) (r .last) (r .operations) (r .«counted_tap»)
+      → _≡_ {A = Acted} (record { supervised = v; blocks = b; regulated = g; accounted = a }) (actedOf r c x)
+  unfolding actedOf supervisedIn blockedIn regulatedIn accountedIn
+  act-made p q u w = rw (← p, ← q, u, w)

@@ -1,0 +1,156 @@
+-- The tick keeps a record within its limits, and leaves a refused one as it was.
+-- Assumes nothing.
+use mathlib.Core.Path.{_≡_, refl, sym, ap, _∙_, subst}
+use mathlib.Core.Bool.{Bool, true, false, not, _&&_, _||_}
+use mathlib.Core.List.{List, map}
+use Prim.Native.Nat.{ℕ, _+_, _<_, _≤_}
+use native.Mathlib.Omega.{arith}
+use borrow.Author.Tests.{le-leb, leb-true}
+use lib.Dec.{leb, eqb}
+use Rattle.common.specs.Choice.{choose}
+use Rattle.common.specs.Places.{zip}
+use Rattle.common.proofs.Cases.{yes, no, chosen}
+use Rattle.slots.specs.Slots.{slot, inService, t4, t5, t8, nL, nR}
+use Rattle.sheet.specs.Sheet.{passesOf}
+use Rattle.sheet.proofs.Every.{and-left, and-right}
+use Rattle.sheet.proofs.Laws.{t4-range}
+use Rattle.organ.specs.Limits.{organsWithin}
+use Rattle.organ.specs.Organs.{organOf}
+use Rattle.organ.proofs.Within.{all-step-within}
+use Rattle.drive.specs.declared.Direction.{Direction}
+use Rattle.drive.specs.declared.Way.{Way}
+use Rattle.drive.specs.declared.Way.the-variants.{Neither, To}
+use Rattle.drive.specs.declared.follow.Contact.{Contact}
+use Rattle.drive.specs.Follow.{restsOf}
+use Rattle.drive.specs.Latches.{isFault, latchedOf, resetOf}
+use Rattle.drive.proofs.Kept as kept
+use Rattle.tap.proofs.Steps.{counted-kept}
+use Rattle.input.specs.declared.Contacts.{Contacts}
+use Rattle.input.specs.declared.Input.{Input}
+use Rattle.input.specs.Brought.{contactsOf}
+use Rattle.blocks.proofs.Laws.{fault-blocks-automatic, fault-blocks-manual}
+use Rattle.command.specs.declared.Decided.{Decided}
+use Rattle.command.specs.declared.Situation.{Situation}
+use Rattle.command.proofs.Sound.{Sound, decided-sound, modeBlocked}
+use Rattle.record.specs.Limits.{motionWithin, countsWithin, withinOf, delaysOf}
+use Rattle.record.specs.Starting.{freshOf}
+use Rattle.record.specs.declared.Regulator.{Regulator}
+use Rattle.record.proofs.Starts.{fresh-within}
+use Rattle.stages.specs.Accounting.{operationsOf, accountedOf}
+use Rattle.stages.specs.Commanding.{blockedOf, isMissing, askOf, situationOf, decisionOf, regulatedOf}
+use Rattle.stages.specs.Protecting.{organInputsOf, protectedOf}
+use Rattle.stages.specs.Supervising.{contactOf, clearedOf, followedOf, supervisedOf}
+use Rattle.stages.specs.declared.supervising.Supervised.{Supervised}
+use Rattle.regulator.specs.declared.Sensed.{Sensed}
+use Rattle.regulator.specs.declared.Ticked.{Ticked}
+use Rattle.regulator.specs.Ticks.{sensedOf, protectedIn, observedIn, supervisedIn, blockedIn, memoryOf, regulatedIn, accountedIn, actedOf, nextOf, endOf, ranOf, isOut, outOf, refusedOf, tickOf}
+use Rattle.regulator.proofs.Lasting.{Parts, motion-parts, motion-kept, fault-rests, delays-are, operations-most}
+
+-- the four parts of the counts
+four : (a b c d : Bool) → (a && b && c && d) ≡ true → (a ≡ true) × (b ≡ true) × (c ≡ true) × (d ≡ true)
+four a b c d h =
+    let g = and-left (a && b && c) d h in
+    let k = and-left (a && b) c g in
+    (and-left a b k, and-right a b k, and-right (a && b) c g, and-right (a && b && c) d h)
+
+module _ (r : Regulator) (h : withinOf r ≡ true) where
+  pub pass : passesOf (r .settings) ≡ true
+  unfolding withinOf
+  pass = and-left _ _ (and-left _ _ h)
+
+  pub motion : Parts (r .settings) (r .drive) (r .wait) (r .latch)
+  unfolding withinOf
+  motion = motion-parts _ _ _ _ (and-right (passesOf (r .settings)) _ (and-left _ _ h))
+
+  counts : countsWithin (r .settings) (r .organs) (r .«counted_tap») (r .operations) ≡ true
+  unfolding withinOf
+  counts = and-right (passesOf (r .settings) && motionWithin (r .settings) (r .drive) (r .wait) (r .latch)) _ h
+
+  module _ (c : Contacts) (x : Sensed) where
+    abbrev v : Supervised
+    v = supervisedIn r c x
+
+    abbrev k : Contact
+    k = contactOf (r .settings) c (x .observed .position .tap) (clearedOf c (r .latch)) (r .last)
+
+    abbrev situated : Situation
+    situated = situationOf c (x .assessed) (blockedIn r c x v) (memoryOf r) (v .drive)
+
+    abbrev decided : Decided
+    decided = decisionOf (r .settings) c (x .assessed) (blockedIn r c x v) (memoryOf r) (v .drive)
+
+    sound : Sound (r .settings) situated decided
+    unfolding decisionOf
+    sound = decided-sound (r .settings) situated
+
+    four-or-more : 1 ≤ k .t4
+    unfolding contactOf
+    four-or-more = omega (arith, t4-range (r .settings) pass .0)
+
+    -- a fault has the drive at rest, and lets no command begin
+    rests-in-fault : isFault (v .latch .fault) ≡ true → restsOf (v .drive) ≡ true
+    unfolding supervisedIn supervisedOf followedOf clearedOf latchedOf contactOf
+    rests-in-fault e = fault-rests (r .drive) (r .latch) (c .reset) k four-or-more refl (motion .stopped) _ refl e
+
+    mode-in-fault : isFault (v .latch .fault) ≡ true → modeBlocked situated ≡ true
+    unfolding situationOf blockedIn blockedOf
+    mode-in-fault e =
+        chosen (λ b. b ≡ true) _ _ _ (λ p. fault-blocks-automatic (r .settings) c _ e) (λ p. fault-blocks-manual (r .settings) c _ e)
+
+    no-command : isFault (v .latch .fault) ≡ true → (w : Way) → decided .command ≡ w → decided .command ≡ Neither
+    no-command e Neither q = q
+    no-command e (To d) q = let z : _≡_ {A = Bool} true false = sym (mode-in-fault e) ∙ sound .begins d q .mode in cc
+
+    rest : situated .resting ≡ true → restsOf (v .drive) ≡ true
+    unfolding situationOf
+    rest e = and-right (restsOf (r .drive)) _ e
+
+    next-motion : motionWithin (r .settings) (askOf (v .drive) (decided .command)) (decided .wait) (v .latch) ≡ true
+    unfolding supervisedIn supervisedOf followedOf contactOf
+    next-motion =
+        motion-kept (r .settings) pass situated decided sound (v .drive) (v .latch) rest (kept.follow-sound k four-or-more (r .drive) .within)
+        (λ e. (rests-in-fault e, no-command e (decided .command) refl)) (kept.latched-within _ _ _)
+
+    next-counts : countsWithin (r .settings) (protectedIn r (x .observed) .organs) (accountedIn r v .tap) (accountedIn r v .operations) ≡ true
+    unfolding countsWithin protectedIn protectedOf accountedIn accountedOf
+    next-counts =
+        let p =
+        four (organsWithin (delaysOf (r .settings)) (r .organs)) (leb (slot (r .settings) nL) (r .«counted_tap»))
+        (leb (r .«counted_tap») (slot (r .settings) nR)) (leb (r .operations) 999999) counts in
+        let b = counted-kept (r .settings) (r .«counted_tap») (leb-true _ _ (p .1)) (leb-true _ _ (p .2)) (v .ended) in
+        let o = operations-most (r .settings) (r .operations) (v .ended) (leb-true _ _ (p .3)) in
+        rw (← delays-are (r .settings) (x .observed .readings) (x .observed .section), all-step-within, le-leb _ _ (b .above), le-leb _ _ (b .below), le-leb _ _ o)
+
+  pub next-within : (i : Input) (c : Contacts) → withinOf (ranOf r i c .next) ≡ true
+  unfolding withinOf ranOf endOf nextOf sensedOf actedOf regulatedIn regulatedOf
+  next-within i c = rw (pass, next-motion c (sensedOf r i c), next-counts c (sensedOf r i c))
+
+-- the tick's next record is within its limits exactly if the record was
+pub tick-lasting : (r : Regulator) (i : Input) → withinOf (tickOf r i .next) ≡ withinOf r
+unfolding tickOf outOf refusedOf
+tick-lasting r i =
+    chosen (λ (t : Ticked). withinOf (t .next) ≡ withinOf r) (withinOf r) _ _
+    (λ h.
+    chosen (λ (t : Ticked). withinOf (t .next) ≡ withinOf r) _ _ _
+    (λ p. fresh-within (r .settings) (pass r h) ∙ sym h)
+    (λ p. next-within r h i (contactsOf (i .contacts)) ∙ sym h))
+    (λ h. refl)
+
+pub ticked : (r : Regulator) (i : Input) {t : Ticked} → t ≡ tickOf r i → (t ≡ tickOf r i) × (withinOf (t .next) ≡ withinOf r)
+ticked r i e = (e, ap (λ (t : Ticked). withinOf (t .next)) e ∙ tick-lasting r i)
+
+-- the three ways of a tick
+module _ (r : Regulator) (i : Input) {t : Ticked} {b : Bool} {c : Contacts} (w : b ≡ withinOf r) where
+  pub tick-out : c ≡ contactsOf (i .contacts) → b ≡ true → (eqb (slot (r .settings) inService) 0 || c .out) ≡ true → t ≡ outOf r
+      → t ≡ tickOf r i
+  unfolding tickOf isOut
+  tick-out e p q u = yes _ _ _ _ (sym w ∙ p) (yes _ _ _ _ (sym (ap (isOut r) e) ∙ q) u)
+
+  pub tick-live : c ≡ contactsOf (i .contacts) → b ≡ true → (eqb (slot (r .settings) inService) 0 || c .out) ≡ false → t ≡ ranOf r i c
+      → t ≡ tickOf r i
+  unfolding tickOf isOut
+  tick-live e p q u = yes _ _ _ _ (sym w ∙ p) (no _ _ _ _ (sym (ap (isOut r) e) ∙ q) (u ∙ ap (ranOf r i) e))
+
+pub tick-refused : (r : Regulator) (i : Input) {t : Ticked} {b : Bool} → b ≡ withinOf r → b ≡ false → t ≡ refusedOf r → t ≡ tickOf r i
+unfolding tickOf
+tick-refused r i w p u = no _ _ _ _ (sym w ∙ p) u

@@ -1,0 +1,14 @@
+// Worked values of the readings and of the setting sheet. `stdout` has what the second program, `reference/`, prints of the
+// same values, so a run that differs shows that one of the two programs is wrong.
+mod print;
+mod readings;
+mod sheets;
+mod sum;
+
+fn main() {
+    readings::print_listed();
+    readings::print_generated();
+    sheets::print_lengths();
+    sheets::print_slots(b"slot ", sheets::BASE);
+    sheets::print_slots(b"slot5 ", sheets::base_5a());
+}

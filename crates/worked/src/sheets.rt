@@ -1,0 +1,199 @@
+// The check of the setting sheet: a sheet that is taken, lists of other lengths, and a checksum over the sheet with each slot
+// set to each of a row of numbers.
+use crate::print;
+use crate::sum;
+use slots::I_SET3;
+use slots::MODULE;
+use slots::ORGAN_LIMITS;
+use slots::SLOTS;
+ghost use Prim.Native.Nat.{_<_};
+
+// A sheet that is taken.
+pub const BASE: [u32; SLOTS] = [
+    1,
+    0,
+    0,
+    0,
+    0,
+    0,
+    1,
+    1,
+    1,
+    1,
+    1,
+    1,
+    1,
+    0,
+    0,
+    0,
+    0,
+    1,
+    0,
+    100_000,
+    100_000,
+    100_000,
+    100_000,
+    2_000,
+    5_000,
+    1_000,
+    1_000,
+    100,
+    120_000,
+    90_000,
+    10_000,
+    5_000,
+    110_000,
+    20,
+    20,
+    20,
+    100,
+    100,
+    10,
+    10,
+    20,
+    10,
+    10,
+    10,
+    10,
+    10,
+    10,
+    10,
+    20,
+    40,
+    1,
+    0,
+    100_000,
+    0,
+    0,
+    0,
+    0,
+    0,
+    0,
+    0,
+    0,
+    0,
+    0,
+];
+
+const TRIED: [u32; 41] = [
+    0,
+    1,
+    2,
+    3,
+    4,
+    5,
+    19,
+    20,
+    40,
+    41,
+    50,
+    99,
+    100,
+    500,
+    1_000,
+    1_050,
+    2_000,
+    2_001,
+    5_000,
+    5_001,
+    25_000,
+    25_001,
+    36_000,
+    36_001,
+    40_000,
+    40_100,
+    60_000,
+    60_100,
+    80_000,
+    100_000,
+    100_050,
+    100_100,
+    140_000,
+    140_100,
+    200_000,
+    200_001,
+    200_100,
+    499_999,
+    500_000,
+    500_001,
+    4_294_967_295,
+];
+
+// The same sheet for a 5 A module.
+pub fn base_5a() -> [u32; SLOTS] {
+    let mut list = BASE;
+    list[MODULE] = 1;
+    list[ORGAN_LIMITS] = 5_000;
+    list[ORGAN_LIMITS + 1] = 5_000;
+    list[I_SET3] = 500;
+    list
+}
+
+fn print_answer(list: &[u32]) {
+    let answer = sheet::check_sheet(list).answer;
+    print::text(b"sheet ");
+    print::number(sheet::number(answer) as u64);
+    print::text(b" ");
+    print::last(sheet::slot(answer) as u64);
+}
+
+// The sheet with a 0 behind it.
+fn longer() -> [u32; 64] {
+    let base = BASE;
+    let mut list = [0u32; 64];
+    let mut i: usize = 0;
+    while i < SLOTS {
+        list[i] = base[i];
+        i += 1;
+    }
+    list
+}
+
+pub fn print_lengths() {
+    let base = BASE;
+    let long = longer();
+    print_answer(&base);
+    print_answer(&base[..62]);
+    print_answer(&long);
+    print_answer(&base[..0]);
+}
+
+// What the answer to the sheet with one slot set adds to the checksum.
+fn weight(base: [u32; SLOTS], i: usize, x: u32) -> u64
+    requires { ⌜ i < 63 ⌝ }
+    ensures { λ r. ⌜ r < 1099511627776 ⌝ }
+{
+    let mut list = base;
+    list[i] = x;
+    let answer = sheet::check_sheet(&list).answer;
+    let number = sheet::number(answer) as u64;
+    let slot = sheet::slot(answer) as u64;
+    number * 64 + slot + 1
+}
+
+// The checksum with each number tried at one slot.
+fn add_slot(sum: u64, base: [u32; SLOTS], i: usize) -> u64
+    requires { ⌜ (sum < 1000003) × (i < 63) ⌝ }
+    ensures { λ r. ⌜ r < 1000003 ⌝ }
+{
+    let mut total = sum;
+    let mut k: usize = 0;
+    while k < 41 {
+        total = sum::add(total, weight(base, i, TRIED[k]));
+        k += 1;
+    }
+    total
+}
+
+pub fn print_slots(word: &[u8], base: [u32; SLOTS]) {
+    let mut sum = sum::START;
+    let mut i: usize = 0;
+    while i < SLOTS {
+        sum = add_slot(sum, base, i);
+        print::text(word);
+        print::number(i as u64);
+        print::text(b" ");
+        print::last(sum);
+        i += 1;
+    }
+}

@@ -1,0 +1,121 @@
+//! Rule 9: the wait, and when a command begins. Rule 10: while it is on.
+
+use crate::blocks::Blocks;
+use crate::input::{bit, Contacts};
+use crate::record::{Direction, Drive, Record, Side, Wait};
+use crate::sheet::{slot, Settings};
+use crate::voltage::Voltage;
+
+/// What rule 9 decides.
+#[derive(Clone, Copy, Debug, PartialEq, Eq)]
+pub struct Decision {
+    pub wait: Wait,
+    /// A command that begins on this tick.
+    pub begun: Option<Direction>,
+    /// Side of the last automatic command, while T2 still applies to it.
+    pub repeat: Option<Side>,
+}
+
+/// Rule 9. `rests` says that the drive still rests after rule 7.
+pub fn decide(
+    record: &Record,
+    rests: bool,
+    contacts: Contacts,
+    voltage: &Voltage,
+    blocks: &Blocks,
+) -> Decision {
+    let ready = rests && record.drive == Drive::Rest;
+    let repeat = repeat_still(record.repeat, contacts, voltage);
+    let idle = Decision {
+        wait: Wait::None,
+        begun: None,
+        repeat,
+    };
+    if !ready {
+        return idle;
+    }
+    if contacts.on(bit::AUTOMATIC) {
+        match deviation(voltage, blocks) {
+            Some(side) => automatic(record, repeat, voltage, side),
+            None => idle,
+        }
+    } else {
+        let begun = manual(record, contacts, blocks);
+        Decision { begun, ..idle }
+    }
+}
+
+/// T2 applies no longer after a tick in band, to the other side, or in manual
+/// mode. A tick with U missing is none of these.
+fn repeat_still(repeat: Option<Side>, contacts: Contacts, voltage: &Voltage) -> Option<Side> {
+    let manual_mode = !contacts.on(bit::AUTOMATIC);
+    let other_side = voltage.side.is_some() && voltage.side != repeat;
+    match manual_mode || other_side || voltage.in_band() {
+        true => None,
+        false => repeat,
+    }
+}
+
+/// The side of an unblocked deviation.
+fn deviation(voltage: &Voltage, blocks: &Blocks) -> Option<Side> {
+    voltage
+        .side
+        .filter(|side| !blocks.automatic && !blocks.way(side.remedy()))
+}
+
+/// One more tick of waiting to `side`; at the delay, the command.
+fn automatic(record: &Record, repeat: Option<Side>, voltage: &Voltage, side: Side) -> Decision {
+    let waited = record.wait.ticks_to(side) + 1;
+    if waited >= delay(&record.settings, repeat, voltage, side) {
+        return Decision {
+            wait: Wait::None,
+            begun: Some(side.remedy()),
+            repeat: Some(side),
+        };
+    }
+    Decision {
+        wait: Wait::to(side, waited),
+        begun: None,
+        repeat,
+    }
+}
+
+/// T3 if high and U > U_set5, else T2 for a repeated command, else T1.
+fn delay(settings: &Settings, repeat: Option<Side>, voltage: &Voltage, side: Side) -> u32 {
+    let fast_lower = i64::from(settings[slot::U_SET5]);
+    let far_above = voltage.u.is_some_and(|u| u > fast_lower);
+    if side == Side::High && far_above {
+        settings[slot::T3]
+    } else if repeat == Some(side) {
+        settings[slot::T2]
+    } else {
+        settings[slot::T1]
+    }
+}
+
+/// Exactly one button, not pressed on the previous tick, and nothing blocked.
+fn manual(record: &Record, contacts: Contacts, blocks: &Blocks) -> Option<Direction> {
+    let raise = contacts.on(bit::RAISE_BUTTON);
+    let lower = contacts.on(bit::LOWER_BUTTON);
+    let (direction, before) = match (raise, lower) {
+        (true, false) => (Direction::Raise, record.raise_button),
+        (false, true) => (Direction::Lower, record.lower_button),
+        _ => return None,
+    };
+    let blocked = blocks.manual || blocks.way(direction);
+    (!before && !blocked).then_some(direction)
+}
+
+/// Rule 10: a command is on while asked, and in its move while length <= T7.
+/// The drive's own moves have no command.
+pub fn command_on(settings: &Settings, drive: Drive) -> Option<Direction> {
+    match drive {
+        Drive::Asked { direction, .. } => Some(direction),
+        Drive::Moving {
+            direction,
+            length,
+            commanded: true,
+        } if length <= settings[slot::T7] => Some(direction),
+        _ => None,
+    }
+}

@@ -1,0 +1,61 @@
+//! What a tick brings.
+
+use crate::reading::Reading;
+
+/// The inputs of one tick.
+#[derive(Clone, Copy, Debug, PartialEq)]
+pub struct Input {
+    pub u_ab: Reading,
+    /// 3U0, the zero-sequence voltage.
+    pub u_zero: Reading,
+    /// U2, the negative-sequence voltage.
+    pub u_negative: Reading,
+    pub i_high: Reading,
+    pub i_bus: Reading,
+    pub i_coupler: Reading,
+    pub contacts: Contacts,
+    /// Bits 0-3 units, 4-6 tens, 7 ignored.
+    pub bcd: u8,
+    pub sensor: u8,
+}
+
+/// The contacts, one bit each.
+#[derive(Clone, Copy, Debug, PartialEq, Eq)]
+pub struct Contacts(pub u32);
+
+impl Contacts {
+    /// Whether the contact of this bit is set.
+    pub fn on(self, bit: u32) -> bool {
+        (self.0 >> bit) & 1 == 1
+    }
+
+    /// Whether any of these contacts is set.
+    pub fn any(self, bits: &[u32]) -> bool {
+        bits.iter().any(|&bit| self.on(bit))
+    }
+}
+
+/// The contacts' bits by name.
+pub mod bit {
+    pub const BREAKER_CLOSED: u32 = 0;
+    pub const SWITCHING: u32 = 1;
+    pub const SUPPLY_OFF: u32 = 2;
+    pub const OIL_COLD: u32 = 3;
+    pub const OIL_LOW: u32 = 4;
+    pub const OIL_HIGH: u32 = 5;
+    pub const END_UP: u32 = 6;
+    pub const END_DOWN: u32 = 7;
+    pub const EXTERNAL_OVERCURRENT: u32 = 8;
+    pub const EXTERNAL_BLOCK: u32 = 9;
+    pub const EXTERNAL_RAISE_BLOCK: u32 = 10;
+    pub const EXTERNAL_LOWER_BLOCK: u32 = 11;
+    pub const RESET: u32 = 12;
+    pub const OUT: u32 = 13;
+    pub const AUTOMATIC: u32 = 14;
+    pub const LOCAL_DRIVE: u32 = 15;
+    pub const U_SUPP2: u32 = 16;
+    pub const U_SUPP3: u32 = 17;
+    pub const U_SUPP4: u32 = 18;
+    pub const RAISE_BUTTON: u32 = 19;
+    pub const LOWER_BUTTON: u32 = 20;
+}

@@ -1,0 +1,32 @@
+//! A transformer tap-changer voltage regulator: the rules of one tick.
+//!
+//! The rules and their numbers are those of the scope paper ("What to make,
+//! and the rules of one tick"). A tick is 5 ms. Delays count ticks, voltages
+//! are in mV, currents in mA.
+//!
+//! * [`sheet::check`] takes or refuses a setting sheet,
+//! * [`tick::tick`] advances a record by one tick and gives 28 outputs.
+
+#![forbid(unsafe_code)]
+
+pub mod blocks;
+pub mod command;
+pub mod dice;
+pub mod drive;
+pub mod input;
+pub mod make;
+pub mod make_sheet;
+pub mod organs;
+pub mod plant;
+pub mod reading;
+pub mod record;
+pub mod recording;
+pub mod replay;
+pub mod scene;
+pub mod section;
+pub mod sheet;
+pub mod stretch;
+pub mod tap;
+pub mod tick;
+pub mod values;
+pub mod voltage;

@@ -1,0 +1,65 @@
+//! Readings and their exact conversion to whole thousandths.
+
+/// One measured quantity, in V or A, with its quality.
+#[derive(Clone, Copy, Debug, PartialEq)]
+pub enum Reading {
+    Good(f32),
+    Held(f32),
+    Invalid,
+}
+
+/// The highest voltage that is not missing, in V.
+pub const VOLT_LIMIT: u32 = 200;
+
+/// The highest current that is not missing, in A, for a module of `k` A.
+pub fn amp_limit(k: u32) -> u32 {
+    40 * k
+}
+
+impl Reading {
+    /// The value for the organs: Good and Held both count.
+    pub fn good_or_held(self, limit: u32) -> Option<u32> {
+        match self {
+            Reading::Good(x) | Reading::Held(x) => thousandths(x, limit),
+            Reading::Invalid => None,
+        }
+    }
+
+    /// The value for everything else: Held is as good as missing.
+    pub fn good(self, limit: u32) -> Option<u32> {
+        match self {
+            Reading::Good(x) => thousandths(x, limit),
+            Reading::Held(_) | Reading::Invalid => None,
+        }
+    }
+}
+
+/// The largest whole number of thousandths not above `x`; nothing if `x` is
+/// missing: not finite, below 0, or above `limit` (a whole number of V or A).
+pub fn thousandths(x: f32, limit: u32) -> Option<u32> {
+    let below = x < 0.0;
+    let above = x > limit as f32;
+    if !x.is_finite() || below || above {
+        return None;
+    }
+    Some(floor_of_thousandfold(x.to_bits()))
+}
+
+/// Floor of 1000 x, where x is given by its bits, is not negative and is at
+/// most 200 or so: then x = significand / 2^shift with a positive shift.
+fn floor_of_thousandfold(bits: u32) -> u32 {
+    let exponent = (bits >> 23) & 0xFF;
+    let fraction = u64::from(bits & 0x007F_FFFF);
+    // Exponent 0 has no hidden leading 1 and the scale of exponent 1.
+    let (significand, scale) = match exponent {
+        0 => (fraction, 1),
+        _ => (fraction | 0x0080_0000, exponent),
+    };
+    let shift = 150 - scale;
+    // 1000 x significand is below 2^34, so beyond that nothing whole is left.
+    let whole = match shift {
+        0..=33 => (1000 * significand) >> shift,
+        _ => 0,
+    };
+    u32::try_from(whole).expect("at most 200,000 by the range test")
+}

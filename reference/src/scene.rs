@@ -1,0 +1,177 @@
+//! A regulator in a simulated substation, tick after tick.
+
+use crate::dice::Dice;
+use crate::input::{bit, Contacts, Input};
+use crate::make_sheet;
+use crate::plant::Plant;
+use crate::reading::{thousandths, Reading};
+use crate::record::{Direction, Record};
+use crate::sheet::{module_k, slot, Settings};
+use crate::stretch::{others, Buttons, Level, Stretch, LOWER, RAISE};
+use crate::tick::{tick, Ticked, OUTPUTS};
+use crate::voltage::compensation;
+
+/// The regulator, the drive and the stretch of ticks they are in.
+pub struct Scene {
+    dice: Dice,
+    pub record: Record,
+    outputs: [u32; OUTPUTS],
+    plant: Plant,
+    stretch: Stretch,
+}
+
+impl Scene {
+    pub fn new(seed: u64) -> Scene {
+        let mut dice = Dice::new(seed);
+        let settings = make_sheet::sheet(&mut dice);
+        let stretch = Stretch::new(&mut dice, &settings);
+        Scene {
+            dice,
+            record: Record::fresh(settings),
+            outputs: [0; OUTPUTS],
+            plant: Plant::new(settings[slot::N_POS]),
+            stretch,
+        }
+    }
+
+    /// The next tick's input, and what the regulator made of it.
+    pub fn next_tick(&mut self) -> (Input, Ticked) {
+        if self.stretch.left == 0 {
+            self.stretch = Stretch::new(&mut self.dice, &self.record.settings);
+        }
+        self.stretch.left -= 1;
+        let input = self.input();
+        let ticked = tick(&self.record, &input);
+        self.record = ticked.next.clone();
+        self.outputs = ticked.outputs;
+        (input, ticked)
+    }
+
+    fn input(&mut self) -> Input {
+        let settings = self.record.settings;
+        let contacts = self.contacts(&settings);
+        if self.dice.one_in(100) {
+            self.stretch.others = others(&mut self.dice, &settings);
+        }
+        let [zero, negative, high, bus, coupler] = self.stretch.others;
+        let u_ab = self.u_ab(&settings, contacts);
+        Input {
+            u_ab: self.reading(u_ab),
+            u_zero: self.reading(zero),
+            u_negative: self.reading(negative),
+            i_high: self.reading(high),
+            i_bus: self.reading(bus),
+            i_coupler: self.reading(coupler),
+            contacts: Contacts(contacts),
+            bcd: self.bcd(),
+            sensor: self.sensor(),
+        }
+    }
+
+    /// The steady contacts, the drive's, the buttons, reset, and flips.
+    fn contacts(&mut self, settings: &Settings) -> u32 {
+        let mut contacts = self.stretch.contacts | (self.dice.bits() << 21);
+        let command = match (self.outputs[0], self.outputs[1]) {
+            (1, _) => Some(Direction::Raise),
+            (_, 1) => Some(Direction::Lower),
+            _ => None,
+        };
+        let temper = self.stretch.temper;
+        let dice = &mut self.dice;
+        if self.plant.contact(dice, settings, temper, command) {
+            contacts |= 1 << bit::SWITCHING;
+        }
+        contacts |= match self.stretch.buttons {
+            Buttons::Still(bits) => bits,
+            Buttons::Tapped if self.dice.one_in(6) => self.dice.pick(&[RAISE, LOWER]),
+            Buttons::Tapped => 0,
+        };
+        let fault = self.outputs[19..=22].contains(&1);
+        if fault && self.dice.one_in(25) {
+            contacts |= 1 << bit::RESET;
+        }
+        if self.dice.one_in(self.stretch.flips) {
+            contacts ^= match self.dice.one_in(8) {
+                true => self.dice.bits() & 0x1F_FFFF,
+                false => 1 << self.dice.between(0, 20),
+            };
+        }
+        contacts
+    }
+
+    /// U_AB, in mV, that brings U to the stretch's level.
+    fn u_ab(&mut self, settings: &Settings, contacts: u32) -> u32 {
+        let chosen = match (contacts >> bit::U_SUPP2) & 7 {
+            4..=7 => 3,
+            2..=3 => 2,
+            1 => 1,
+            _ => 0,
+        };
+        let support = i64::from(settings[slot::U_SUPP + chosen]);
+        let half = i64::from(settings[slot::DU]) / 2;
+        let u = match self.stretch.level {
+            Level::FromLowEdge(by) => support - half + by,
+            Level::FromHighEdge(by) => support + half + by,
+            Level::FromSlot(slot, by) => i64::from(settings[slot]) + by,
+            Level::Wander => support - 2 * half + i64::from(self.dice.between(0, 4 * half as u32)),
+        };
+        let [_, _, _, bus, coupler] = self.stretch.others.map(i64::from);
+        let current = match settings[slot::COMPENSATION_CURRENT] {
+            0 => bus,
+            1 => coupler,
+            2 => bus - coupler,
+            _ => bus + coupler,
+        };
+        let less = match settings[slot::COMPENSATION] {
+            0 => 0,
+            _ => compensation(settings[slot::U_COMP], current, module_k(settings)),
+        };
+        (u + less).clamp(0, 200_000) as u32
+    }
+
+    /// A reading of so many thousandths, sometimes spoiled.
+    fn reading(&mut self, number: u32) -> Reading {
+        let float = match self.dice.one_in(8) {
+            true => number as f32 / 1_000.0,
+            false => float_of(number),
+        };
+        if !self.dice.one_in(self.stretch.noise * 3) {
+            return Reading::Good(float);
+        }
+        let dice = &mut self.dice;
+        match dice.between(0, 9) {
+            0..=2 => Reading::Held(float),
+            3 => Reading::Invalid,
+            4 => Reading::Good(f32::from_bits(dice.bits())),
+            5 => Reading::Held(f32::from_bits(dice.bits())),
+            6 => Reading::Good(dice.pick(&[f32::NAN, f32::INFINITY, f32::NEG_INFINITY])),
+            7 => Reading::Good(dice.pick(&[-0.0, -float, f32::from_bits(1), f32::MAX])),
+            8 => Reading::Good(f32::from_bits(dice.pick(&[0x4348_0000, 0x4348_0001]))),
+            _ => Reading::Good(f32::from_bits(dice.pick(&[0x4220_0000, 0x4220_0001]))),
+        }
+    }
+
+    fn bcd(&mut self) -> u8 {
+        let tap = self.plant.tap as u8;
+        match self.dice.one_in(self.stretch.noise) {
+            true => self.dice.bits() as u8,
+            false => (16 * (tap / 10) + tap % 10) | self.dice.pick(&[0, 0x80]),
+        }
+    }
+
+    fn sensor(&mut self) -> u8 {
+        match self.dice.one_in(self.stretch.noise) {
+            true => self.dice.bits() as u8,
+            false => self.plant.tap as u8,
+        }
+    }
+}
+
+/// A float whose whole thousandths are just this number, up to 200,000.
+pub fn float_of(number: u32) -> f32 {
+    let nearest = (f64::from(number) / 1_000.0) as f32;
+    match thousandths(nearest, 200) {
+        Some(got) if got < number => f32::from_bits(nearest.to_bits() + 1),
+        _ => nearest,
+    }
+}

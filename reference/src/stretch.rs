@@ -1,0 +1,138 @@
+//! Stretches of ticks during which little changes.
+
+use crate::dice::Dice;
+use crate::input::bit;
+use crate::plant::{Temper, TEMPERS};
+use crate::reading::amp_limit;
+use crate::sheet::{module_k, slot, Settings};
+
+/// Where the voltage stays during a stretch of ticks.
+#[derive(Clone, Copy)]
+pub enum Level {
+    /// So many mV from the low edge of the band.
+    FromLowEdge(i64),
+    /// So many mV from the high edge.
+    FromHighEdge(i64),
+    /// So many mV from a slot's voltage.
+    FromSlot(usize, i64),
+    /// Anywhere about the band, another place each tick.
+    Wander,
+}
+
+/// What the buttons do during a stretch.
+#[derive(Clone, Copy)]
+pub enum Buttons {
+    Still(u32),
+    Tapped,
+}
+
+/// A stretch of ticks during which little changes.
+pub struct Stretch {
+    pub left: u32,
+    pub contacts: u32,
+    pub level: Level,
+    pub temper: Temper,
+    pub buttons: Buttons,
+    /// 3U0, U2, I_high, I_bus, I_coupler in whole thousandths.
+    pub others: [u32; 5],
+    /// One tick in so many has a spoiled reading or tap byte.
+    pub noise: u32,
+    /// One tick in so many has a flipped contact.
+    pub flips: u32,
+}
+
+pub const RAISE: u32 = 1 << bit::RAISE_BUTTON;
+pub const LOWER: u32 = 1 << bit::LOWER_BUTTON;
+
+impl Stretch {
+    pub fn new(dice: &mut Dice, settings: &Settings) -> Stretch {
+        Stretch {
+            left: dice.pick(&[1, 10, 100, 200, 300]) + dice.between(0, 100),
+            contacts: steady_contacts(dice),
+            level: level(dice),
+            temper: dice.pick(&TEMPERS),
+            buttons: buttons(dice),
+            others: others(dice, settings),
+            noise: dice.pick(&[0, 0, 0, 0, 200, 60, 10]),
+            flips: dice.pick(&[0, 0, 0, 0, 300, 60, 10]),
+        }
+    }
+}
+
+/// Breaker, mode, U_supp and now and then something that blocks.
+fn steady_contacts(dice: &mut Dice) -> u32 {
+    let mut contacts = 0;
+    if !dice.one_in(20) {
+        contacts |= 1 << bit::BREAKER_CLOSED;
+    }
+    if !dice.one_in(3) {
+        contacts |= 1 << bit::AUTOMATIC;
+    }
+    if dice.one_in(4) {
+        contacts |= dice.between(0, 7) << bit::U_SUPP2;
+    }
+    if dice.one_in(8) {
+        contacts |= 1 << dice.between(bit::SUPPLY_OFF, bit::RESET);
+    }
+    if dice.one_in(25) {
+        contacts |= 1 << dice.pick(&[bit::LOCAL_DRIVE, bit::RESET]);
+    }
+    contacts
+}
+
+fn level(dice: &mut Dice) -> Level {
+    let far = i64::from(dice.between(0, 4_000));
+    match dice.between(0, 17) {
+        0..=4 => Level::FromLowEdge(-far),
+        5 | 13..=16 => Level::FromHighEdge(far),
+        6 => Level::FromLowEdge(dice.pick(&[-1, 0, 1])),
+        7 => Level::FromHighEdge(dice.pick(&[-1, 0, 1])),
+        8 => Level::FromSlot(slot::U_SET5, dice.pick(&[0, 1, far])),
+        9 => Level::FromSlot(slot::U_SET1, dice.pick(&[0, 1, far])),
+        10 => Level::FromSlot(slot::U_SET2, dice.pick(&[0, -1, -far])),
+        11 => Level::FromLowEdge(far),
+        12 => Level::FromHighEdge(-far),
+        _ => Level::Wander,
+    }
+}
+
+fn buttons(dice: &mut Dice) -> Buttons {
+    match dice.between(0, 5) {
+        0 => Buttons::Still(dice.pick(&[RAISE, LOWER, RAISE | LOWER])),
+        1..=2 => Buttons::Still(0),
+        _ => Buttons::Tapped,
+    }
+}
+
+/// 3U0, U2, I_high, I_bus and I_coupler, calm or near what trips.
+pub fn others(dice: &mut Dice, settings: &Settings) -> [u32; 5] {
+    let k = module_k(settings);
+    let top = 1_000 * amp_limit(k);
+    let bus = match dice.between(0, 5) {
+        0 => near(dice, settings[slot::I_SET2]),
+        1 => near(dice, settings[slot::I_SET3]),
+        _ => dice
+            .between(0, 600 * k)
+            .max(settings[slot::I_SET3] * 11 / 10),
+    };
+    [
+        calm_or_near(dice, settings[slot::U_SET3]).min(200_000),
+        calm_or_near(dice, settings[slot::U_SET4]).min(200_000),
+        calm_or_near(dice, settings[slot::I_SET1]).min(top),
+        bus.min(top),
+        dice.between(0, 600 * k),
+    ]
+}
+
+fn calm_or_near(dice: &mut Dice, set: u32) -> u32 {
+    match dice.one_in(5) {
+        true => near(dice, set),
+        false => dice.between(0, set / 2),
+    }
+}
+
+/// A number at or beside one of an organ's borders.
+fn near(dice: &mut Dice, set: u32) -> u32 {
+    let border = dice.pick(&[set, set * 19 / 20, set * 21 / 20]);
+    (border + dice.between(0, 2)).saturating_sub(1)
+}

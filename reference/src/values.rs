@@ -1,0 +1,203 @@
+//! `reference values`: worked values, always the same.
+
+use std::io::{self, Write};
+
+use crate::reading::{thousandths, Reading};
+use crate::sheet::{check, slot};
+
+/// A sheet that is taken, and that the worked values start from.
+#[rustfmt::skip]
+pub const BASE: [u32; 63] = [
+    1, 0, 0, 0, 0, 0,
+    1, 1, 1, 1, 1, 1, 1,
+    0, 0, 0, 0, 1, 0,
+    100_000, 100_000, 100_000, 100_000,
+    2_000, 5_000,
+    1_000, 1_000, 100,
+    120_000, 90_000, 10_000, 5_000, 110_000,
+    20, 20, 20, 100, 100, 10, 10,
+    20,
+    10, 10, 10, 10, 10, 10, 10,
+    20, 40, 1,
+    0, 100_000,
+    0, 0, 0, 0, 0, 0, 0, 0, 0, 0,
+];
+
+/// Readings against 200, by their bits.
+const AGAINST_200: [u32; 18] = [
+    0x42C8_3333,
+    0x4348_0000,
+    0x4348_0001,
+    0x8000_0000,
+    0x0000_0001,
+    0x7FC0_0000,
+    0xFFC0_0000,
+    0x7F80_0000,
+    0xFF80_0000,
+    0x8000_0001,
+    0xBF80_0000,
+    0x3A83_126E,
+    0x3A83_126F,
+    0x3F80_0000,
+    0x007F_FFFF,
+    0x0080_0000,
+    0x7F7F_FFFF,
+    0x4347_FFFF,
+];
+
+/// Readings against 40, by their bits.
+const AGAINST_40: [u32; 3] = [0x4220_0000, 0x4220_0001, 0x421F_FFFF];
+
+/// Numbers tried in every slot.
+const TRIED: [u32; 41] = [
+    0,
+    1,
+    2,
+    3,
+    4,
+    5,
+    19,
+    20,
+    40,
+    41,
+    50,
+    99,
+    100,
+    500,
+    1_000,
+    1_050,
+    2_000,
+    2_001,
+    5_000,
+    5_001,
+    25_000,
+    25_001,
+    36_000,
+    36_001,
+    40_000,
+    40_100,
+    60_000,
+    60_100,
+    80_000,
+    100_000,
+    100_050,
+    100_100,
+    140_000,
+    140_100,
+    200_000,
+    200_001,
+    200_100,
+    499_999,
+    500_000,
+    500_001,
+    4_294_967_295,
+];
+
+/// Checksums are taken modulo this.
+const MODULUS: u64 = 1_000_003;
+
+/// Prints all worked values.
+pub fn print(out: &mut impl Write) -> io::Result<()> {
+    print_readings(out)?;
+    print_generated_readings(out)?;
+    print_sheets(out)?;
+    print_slots(out, "slot", &BASE)?;
+    print_slots(out, "slot5", &base_5a())
+}
+
+fn print_readings(out: &mut impl Write) -> io::Result<()> {
+    let good = |bits: u32| Reading::Good(f32::from_bits(bits));
+    for bits in AGAINST_200 {
+        print_reading(out, 200, bits, good(bits))?;
+    }
+    for bits in AGAINST_40 {
+        print_reading(out, 40, bits, good(bits))?;
+    }
+    let held = 0x4348_0000;
+    print_reading(out, 200, held, Reading::Held(f32::from_bits(held)))
+}
+
+fn print_reading(out: &mut impl Write, limit: u32, bits: u32, reading: Reading) -> io::Result<()> {
+    match reading.good_or_held(limit) {
+        Some(answer) => writeln!(out, "reading {limit} {bits} {answer}"),
+        None => writeln!(out, "reading {limit} {bits} missing"),
+    }
+}
+
+/// A checksum over 20,000 generated bit patterns.
+fn print_generated_readings(out: &mut impl Write) -> io::Result<()> {
+    let mut seed: u64 = 12_345;
+    let mut sum: u64 = 7;
+    for i in 0..20_000_u64 {
+        seed = (seed * 1_103_515_245 + 12_345) % (1 << 31);
+        let bits = pattern(i, seed);
+        let limit = if i % 2 == 0 { 200 } else { 40 };
+        let folded = match answer(bits, limit) {
+            None => 1,
+            Some(answer) => 2 + u64::from(answer),
+        };
+        sum = (sum * 31 + folded) % MODULUS;
+    }
+    writeln!(out, "readings 20000 {sum}")
+}
+
+/// Every third pattern is any float at all, the others are mostly in range.
+fn pattern(i: u64, seed: u64) -> u32 {
+    let bits = match i % 3 {
+        0 => (seed * 2 + i % 2) % (1 << 32),
+        _ => 0x3A00_0000 + seed % 0x0F00_0000,
+    };
+    bits as u32
+}
+
+/// The converted pattern; a NaN is missing without converting it.
+fn answer(bits: u32, limit: u32) -> Option<u32> {
+    let nan = bits % (1 << 31) > 0x7F80_0000;
+    match nan {
+        true => None,
+        false => thousandths(f32::from_bits(bits), limit),
+    }
+}
+
+fn print_sheets(out: &mut impl Write) -> io::Result<()> {
+    let mut longer = BASE.to_vec();
+    longer.push(0);
+    for list in [&BASE[..], &BASE[..62], &longer, &[]] {
+        let (number, slot) = verdict(list);
+        writeln!(out, "sheet {number} {slot}")?;
+    }
+    Ok(())
+}
+
+/// Every slot with every tried number, as a running checksum.
+fn print_slots(out: &mut impl Write, word: &str, base: &[u32; 63]) -> io::Result<()> {
+    let mut sum: u64 = 7;
+    for i in 0..base.len() {
+        for tried in TRIED {
+            let mut list = *base;
+            list[i] = tried;
+            let (number, slot) = verdict(&list);
+            sum = (sum * 31 + u64::from(number) * 64 + u64::from(slot) + 1) % MODULUS;
+        }
+        writeln!(out, "{word} {i} {sum}")?;
+    }
+    Ok(())
+}
+
+/// The refusal's number and slot, 0 and 0 for a sheet that is taken.
+fn verdict(list: &[u32]) -> (u32, u32) {
+    match check(list) {
+        Ok(_) => (0, 0),
+        Err(refusal) => (refusal.number, refusal.slot),
+    }
+}
+
+/// The base sheet for the 5 A module.
+pub fn base_5a() -> [u32; 63] {
+    let mut list = BASE;
+    list[slot::MODULE] = 1;
+    list[slot::I_SET1] = 5_000;
+    list[slot::I_SET2] = 5_000;
+    list[slot::I_SET3] = 500;
+    list
+}

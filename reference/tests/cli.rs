@@ -1,0 +1,153 @@
+//! The command line, with files in a directory of its own for each test.
+
+use std::fs;
+use std::path::PathBuf;
+use std::process::{Command, Output};
+
+use reference::recording::sheet_to_bytes;
+use reference::scene::Scene;
+use reference::values::BASE;
+
+fn reference(words: &[&str]) -> Output {
+    Command::new(env!("CARGO_BIN_EXE_reference"))
+        .args(words)
+        .output()
+        .unwrap()
+}
+
+/// A clean directory, and the names of a sheet and a recording in it.
+fn files(name: &str) -> (String, String) {
+    let directory = PathBuf::from(env!("CARGO_TARGET_TMPDIR")).join(name);
+    fs::create_dir_all(&directory).unwrap();
+    let path = |file| directory.join(file).to_str().unwrap().to_string();
+    (path("sheet"), path("recording"))
+}
+
+fn text(bytes: &[u8]) -> String {
+    String::from_utf8(bytes.to_vec()).unwrap()
+}
+
+#[test]
+fn bad_usage() {
+    for words in [
+        &[][..],
+        &["nothing"],
+        &["values", "more"],
+        &["replay", "one"],
+        &["make", "x", "1", "a", "b"],
+        &["make", "1", "-1", "a", "b"],
+    ] {
+        let output = reference(words);
+        assert_eq!(output.status.code(), Some(2));
+        assert!(output.stdout.is_empty() && !output.stderr.is_empty());
+    }
+}
+
+#[test]
+fn values_have_all_their_lines() {
+    let output = reference(&["values"]);
+    assert!(output.status.success());
+    let lines = text(&output.stdout);
+    assert_eq!(lines.lines().count(), 18 + 3 + 1 + 1 + 4 + 2 * 63);
+    assert!(lines.starts_with("reading 200 1120416563 100099\nreading 200 1128792064 200000\n"));
+    assert!(lines.contains("\nsheet 0 0\nsheet 1 0\nsheet 1 0\nsheet 1 0\nslot 0 "));
+}
+
+#[test]
+fn a_made_recording_can_be_replayed() {
+    let (sheet, recording) = files("made");
+    for seed in ["1", "2", "3"] {
+        assert!(reference(&["make", seed, "500", &sheet, &recording])
+            .status
+            .success());
+        let made = (fs::read(&sheet).unwrap(), fs::read(&recording).unwrap());
+        assert_eq!(made.1.len(), 500 * 36);
+        let output = reference(&["replay", &sheet, &recording]);
+        assert!(output.status.success());
+        let lines = text(&output.stdout);
+        assert!(lines.starts_with("0 0\n"));
+        assert_eq!(lines.lines().count(), 501);
+        let mut scene = Scene::new(seed.parse().unwrap());
+        for line in lines.lines().skip(1) {
+            let words = scene.next_tick().1.outputs.map(|n| n.to_string());
+            assert_eq!(line, words.join(" "));
+        }
+        // The same seed makes the same files.
+        reference(&["make", seed, "500", &sheet, &recording]);
+        assert_eq!(fs::read(&sheet).unwrap(), made.0);
+        assert_eq!(fs::read(&recording).unwrap(), made.1);
+    }
+}
+
+#[test]
+fn every_25th_made_sheet_is_spoiled() {
+    let (sheet, recording) = files("spoiled");
+    for (seed, length) in [("24", 252), ("74", 252)] {
+        reference(&["make", seed, "0", &sheet, &recording]);
+        assert_eq!(fs::read(&sheet).unwrap().len(), length);
+    }
+    reference(&["make", "99", "0", &sheet, &recording]);
+    let output = reference(&["replay", &sheet, &recording]);
+    assert_eq!(text(&output.stdout), "1 0\n");
+}
+
+#[test]
+fn a_refused_sheet_is_the_whole_answer() {
+    let (sheet, recording) = files("refused");
+    fs::write(&recording, [0; 36]).unwrap();
+    let mut wrong = BASE;
+    wrong[60] = 41;
+    let mut longer = sheet_to_bytes(&BASE);
+    longer.push(0);
+    for (bytes, answer) in [
+        (sheet_to_bytes(&wrong), "2 60\n"),
+        (longer, "1 0\n"),
+        (Vec::new(), "1 0\n"),
+    ] {
+        fs::write(&sheet, bytes).unwrap();
+        let output = reference(&["replay", &sheet, &recording]);
+        assert!(output.status.success());
+        assert_eq!(text(&output.stdout), answer);
+    }
+}
+
+/// Replays these bytes on the base sheet.
+fn replayed(name: &str, bytes: &[u8]) -> Output {
+    let (sheet, recording) = files(name);
+    fs::write(&sheet, sheet_to_bytes(&BASE)).unwrap();
+    fs::write(&recording, bytes).unwrap();
+    reference(&["replay", &sheet, &recording])
+}
+
+#[test]
+fn an_empty_recording() {
+    let output = replayed("empty", &[]);
+    assert!(output.status.success());
+    assert_eq!(text(&output.stdout), "0 0\n");
+}
+
+#[test]
+fn a_bad_quality_byte() {
+    let mut bytes = [0; 3 * 36];
+    bytes[36 + 20] = 3;
+    let output = replayed("quality", &bytes);
+    assert_eq!(output.status.code(), Some(1));
+    assert_eq!(text(&output.stdout).lines().count(), 2);
+    assert!(text(&output.stderr).contains("at offset 56"));
+}
+
+#[test]
+fn a_tick_cut_short() {
+    let output = replayed("cut", &[0; 2 * 36 + 35]);
+    assert_eq!(output.status.code(), Some(1));
+    assert_eq!(text(&output.stdout).lines().count(), 3);
+    assert!(text(&output.stderr).contains("ends at offset 107"));
+}
+
+#[test]
+fn files_that_are_not_there() {
+    let (sheet, recording) = files("absent");
+    let output = reference(&["replay", &sheet, &recording]);
+    assert_eq!(output.status.code(), Some(1));
+    assert!(output.stdout.is_empty() && !output.stderr.is_empty());
+}

@@ -1,0 +1,190 @@
+//! Rules 9 and 7 told once more, from inputs and outputs alone: a watcher that
+//! never looks into the record must agree on every tick.
+
+use reference::input::{bit, Input};
+use reference::record::Side;
+use reference::scene::Scene;
+use reference::sheet::{slot, Settings};
+use reference::tick::OUTPUTS;
+use reference::voltage;
+
+type Outputs = [u32; OUTPUTS];
+
+/// What the watcher remembers.
+struct Watcher {
+    settings: Settings,
+    before: Outputs,
+    /// Waiting ticks in a row, and to which side.
+    row: u32,
+    row_side: Option<Side>,
+    /// Side of the last automatic command, if nothing has ended T2 since.
+    repeat: Option<Side>,
+    buttons: (bool, bool),
+    /// Ticks in a row with the same supply-tripping fault.
+    tripping: u32,
+    operations: u32,
+    commands: u32,
+}
+
+impl Watcher {
+    fn new(settings: Settings) -> Watcher {
+        Watcher {
+            settings,
+            before: [0; OUTPUTS],
+            row: 0,
+            row_side: None,
+            repeat: None,
+            buttons: (true, true),
+            tripping: 0,
+            operations: settings[slot::N_START],
+            commands: 0,
+        }
+    }
+
+    fn watch(&mut self, input: &Input, outputs: &Outputs) {
+        let on = |bit| input.contacts.on(bit);
+        if on(bit::OUT) || self.settings[slot::IN_SERVICE] == 0 {
+            assert_eq!(*outputs, [0; OUTPUTS]);
+            let commands = self.commands;
+            *self = Watcher::new(self.settings);
+            self.commands = commands;
+            return;
+        }
+        let began = self.began(outputs);
+        let expected = match on(bit::AUTOMATIC) {
+            true => self.automatic(input, outputs),
+            false => self.manual(input, outputs),
+        };
+        assert_eq!(began, expected);
+        self.commands += u32::from(began != (0, 0));
+        self.supply_trip(input, outputs);
+        self.wear(input, outputs);
+        self.buttons = (on(bit::RAISE_BUTTON), on(bit::LOWER_BUTTON));
+        self.before = *outputs;
+    }
+
+    fn at_rest(&self) -> bool {
+        self.before[24] == 0
+    }
+
+    /// Raise and lower that begin on this tick.
+    fn began(&self, outputs: &Outputs) -> (u32, u32) {
+        match self.at_rest() {
+            true => (outputs[0], outputs[1]),
+            false => (0, 0),
+        }
+    }
+
+    /// The side to which this is a waiting tick, in automatic.
+    fn waits_to(&self, input: &Input, outputs: &Outputs) -> Option<Side> {
+        let clear = self.at_rest()
+            && !input.contacts.on(bit::SWITCHING)
+            && outputs[13] == 0
+            && outputs[19..=22] == [0; 4];
+        if clear && outputs[17] == 1 && outputs[15] == 0 {
+            Some(Side::Low)
+        } else if clear && outputs[18] == 1 && outputs[16] == 0 {
+            Some(Side::High)
+        } else {
+            None
+        }
+    }
+
+    fn automatic(&mut self, input: &Input, outputs: &Outputs) -> (u32, u32) {
+        let u = voltage::judge(&self.settings, input).u;
+        let side = match (outputs[17], outputs[18]) {
+            (1, _) => Some(Side::Low),
+            (_, 1) => Some(Side::High),
+            _ => None,
+        };
+        if u.is_some() && side != self.repeat {
+            self.repeat = None;
+        }
+        let waits = self.waits_to(input, outputs);
+        self.row = if waits == self.row_side {
+            self.row + 1
+        } else {
+            1
+        };
+        self.row_side = waits;
+        let Some(side) = waits else {
+            return (0, 0);
+        };
+        let fast = side == Side::High && u.unwrap() > i64::from(self.settings[slot::U_SET5]);
+        let delay = match (fast, self.repeat) {
+            (true, _) => self.settings[slot::T3],
+            (false, Some(_)) => self.settings[slot::T2],
+            (false, None) => self.settings[slot::T1],
+        };
+        if self.row < delay {
+            return (0, 0);
+        }
+        self.row_side = None;
+        self.repeat = Some(side);
+        match side {
+            Side::Low => (1, 0),
+            Side::High => (0, 1),
+        }
+    }
+
+    fn manual(&mut self, input: &Input, outputs: &Outputs) -> (u32, u32) {
+        self.row_side = None;
+        self.repeat = None;
+        let rests = self.at_rest() && !input.contacts.on(bit::SWITCHING);
+        if !rests || outputs[14] == 1 {
+            return (0, 0);
+        }
+        let raise = input.contacts.on(bit::RAISE_BUTTON);
+        let lower = input.contacts.on(bit::LOWER_BUTTON);
+        let raises = raise && !lower && !self.buttons.0 && outputs[15] == 0;
+        let lowers = lower && !raise && !self.buttons.1 && outputs[16] == 0;
+        (u32::from(raises), u32::from(lowers))
+    }
+
+    /// Run-away or long shows output 23 for T8 ticks, or all along.
+    fn supply_trip(&mut self, input: &Input, outputs: &Outputs) {
+        let fault = [outputs[19], outputs[21]];
+        let same = fault == [self.before[19], self.before[21]];
+        if fault == [0, 0] {
+            self.tripping = 0;
+        } else if same && !input.contacts.on(bit::RESET) {
+            self.tripping += 1;
+        } else {
+            self.tripping = 1;
+        }
+        let lasting = self.settings[slot::LASTING_SUPPLY_TRIP] == 1;
+        let pulse = self.tripping <= self.settings[slot::T8];
+        let expected = self.tripping > 0 && (lasting || pulse);
+        assert_eq!(outputs[23], u32::from(expected));
+    }
+
+    /// A move has ended if the drive came to rest on an open contact, without
+    /// local drive and without 'not started'.
+    fn wear(&mut self, input: &Input, outputs: &Outputs) {
+        let came_to_rest = self.before[24] == 1 && outputs[24] == 0;
+        let open = !input.contacts.on(bit::SWITCHING);
+        let local = input.contacts.on(bit::LOCAL_DRIVE);
+        if came_to_rest && open && !local && outputs[20] == 0 {
+            self.operations += 1;
+        }
+        let counts = self.settings[slot::WEAR_COUNT];
+        assert_eq!(outputs[25], counts * self.operations);
+        let worn = self.operations >= self.settings[slot::N_MAX];
+        assert_eq!(outputs[26], counts * u32::from(worn));
+    }
+}
+
+#[test]
+fn a_watcher_agrees() {
+    let mut commands = 0;
+    for seed in 1_000..1_100 {
+        let mut scene = Scene::new(seed);
+        let mut watcher = Watcher::new(scene.record.settings);
+        for _ in 0..1_000 {
+            let (input, ticked) = scene.next_tick();
+            watcher.watch(&input, &ticked.outputs);
+        }
+        commands += watcher.commands;
+    }
+    assert!(commands > 300, "only {commands} commands");
+}

@@ -1,0 +1,170 @@
+//! What must hold on every tick, over many chance ones.
+
+use reference::dice::Dice;
+use reference::input::{bit, Contacts, Input};
+use reference::make_sheet;
+use reference::reading::Reading;
+use reference::record::{within_limits, Direction, Drive, Fault, Organ, Record, Side, Wait};
+use reference::scene::{float_of, Scene};
+use reference::sheet::{check, slot};
+use reference::tick::{tick, Ticked};
+
+/// What holds of every accepted tick.
+fn assert_sound(before: &Record, ticked: &Ticked) {
+    let outputs = &ticked.outputs;
+    let next = &ticked.next;
+    assert_eq!(ticked.refusal, 0);
+    assert!(within_limits(next), "{before:?}\n{next:?}");
+    assert_eq!(next.settings, before.settings);
+    assert!(outputs[0] + outputs[1] <= 1, "raise and lower together");
+    assert!(outputs[17] + outputs[18] <= 1, "low and high together");
+    assert!(outputs[19..=22].iter().sum::<u32>() <= 1, "two faults");
+    assert!(outputs[4] + outputs[5] <= 1, "wrong code and range error");
+    assert!(outputs[0] + outputs[1] <= outputs[24], "a command at rest");
+    let flags = (0..28).filter(|field| ![3, 25].contains(field));
+    assert!(flags.into_iter().all(|field| outputs[field] <= 1));
+}
+
+#[test]
+fn scenes_stay_sound() {
+    for seed in 0..100 {
+        let mut scene = Scene::new(seed);
+        for _ in 0..1_000 {
+            let before = scene.record.clone();
+            let (_, ticked) = scene.next_tick();
+            assert_sound(&before, &ticked);
+        }
+    }
+}
+
+#[test]
+fn scenes_show_everything() {
+    let mut shown = [0_u32; 28];
+    for seed in 0..60 {
+        let mut scene = Scene::new(seed);
+        for _ in 0..1_500 {
+            let (_, ticked) = scene.next_tick();
+            for (count, output) in shown.iter_mut().zip(ticked.outputs) {
+                *count += u32::from(output > 0);
+            }
+        }
+    }
+    for (field, count) in shown.iter().enumerate() {
+        assert!(*count > 50, "output {field} was on {count} times only");
+    }
+}
+
+#[test]
+fn chance_sheets_are_taken() {
+    for seed in 0..2_000 {
+        let list = make_sheet::sheet(&mut Dice::new(seed));
+        assert_eq!(check(&list), Ok(Record::fresh(list)));
+    }
+}
+
+/// Any reading at all, often a sensible one.
+fn any_reading(dice: &mut Dice) -> Reading {
+    let float = match dice.one_in(4) {
+        true => f32::from_bits(dice.bits()),
+        false => float_of(dice.between(0, 200_000) >> dice.between(0, 10)),
+    };
+    match dice.between(0, 9) {
+        0 => Reading::Invalid,
+        1 => Reading::Held(float),
+        _ => Reading::Good(float),
+    }
+}
+
+fn any_input(dice: &mut Dice) -> Input {
+    // Few contacts that take the regulator out or block it.
+    let blocking = 0b1000_1111_1111_1100;
+    let contacts = match dice.one_in(3) {
+        true => dice.bits(),
+        false => dice.bits() & !blocking,
+    };
+    Input {
+        u_ab: any_reading(dice),
+        u_zero: any_reading(dice),
+        u_negative: any_reading(dice),
+        i_high: any_reading(dice),
+        i_bus: any_reading(dice),
+        i_coupler: any_reading(dice),
+        contacts: Contacts(contacts & !(1 << bit::OUT)),
+        bcd: dice.bits() as u8,
+        sensor: dice.between(0, 45) as u8,
+    }
+}
+
+/// Low end, high end, or anything between.
+fn any_up_to(dice: &mut Dice, low: u32, high: u32) -> u32 {
+    match dice.between(0, 3) {
+        0 => low,
+        1 => high,
+        _ => dice.between(low, high),
+    }
+}
+
+fn any_direction(dice: &mut Dice) -> Direction {
+    dice.pick(&[Direction::Raise, Direction::Lower])
+}
+
+fn any_drive(dice: &mut Dice, record: &Record) -> Drive {
+    let direction = any_direction(dice);
+    match dice.between(0, 2) {
+        0 => Drive::Rest,
+        1 => Drive::Asked {
+            direction,
+            age: any_up_to(dice, 0, record.settings[slot::T5] - 1),
+        },
+        _ => Drive::Moving {
+            direction,
+            length: any_up_to(dice, 1, record.settings[slot::T4]),
+            commanded: dice.one_in(2),
+        },
+    }
+}
+
+/// Any record within its limits, whether ticks lead there or not.
+fn any_record(dice: &mut Dice) -> Record {
+    let mut record = Record::fresh(make_sheet::sheet(dice));
+    let settings = record.settings;
+    record.drive = any_drive(dice, &record);
+    if record.drive == Drive::Rest {
+        let faults = [Fault::RunAway, Fault::NotStarted, Fault::Long, Fault::Fast];
+        if dice.one_in(2) {
+            record.fault = dice.pick(&faults);
+        }
+        let side = dice.pick(&[Side::Low, Side::High]);
+        record.wait = Wait::to(side, any_up_to(dice, 0, 35_999));
+    }
+    if record.fault != Fault::None {
+        record.fault_age = any_up_to(dice, 0, settings[slot::T8]);
+    }
+    for i in 0..7 {
+        let count = any_up_to(dice, 0, settings[slot::T9 + i]);
+        if dice.one_in(2) {
+            let marked = true;
+            record.organs[i] = Organ { marked, count };
+        }
+    }
+    record.repeat = dice.pick(&[None, Some(Side::Low), Some(Side::High)]);
+    record.last_direction = Some(any_direction(dice)).filter(|_| dice.one_in(2));
+    record.counted_tap = any_up_to(dice, settings[slot::N_L], settings[slot::N_R]);
+    record.operations = any_up_to(dice, 0, 999_999);
+    record.raise_button = dice.one_in(2);
+    record.lower_button = dice.one_in(2);
+    record
+}
+
+#[test]
+fn any_record_within_limits_stays_so() {
+    let mut dice = Dice::new(1);
+    for _ in 0..30_000 {
+        let mut record = any_record(&mut dice);
+        for _ in 0..3 {
+            let ticked = tick(&record, &any_input(&mut dice));
+            assert_sound(&record, &ticked);
+            record = ticked.next;
+        }
+    }
+}

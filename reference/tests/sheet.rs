@@ -1,0 +1,127 @@
+//! The setting sheet's check.
+
+use reference::record::{within_limits, Drive, Fault, Record, Wait};
+use reference::sheet::{check, slot, Refusal, RANGES};
+use reference::values::{base_5a, BASE};
+
+fn refused(list: &[u32]) -> (u32, u32) {
+    match check(list) {
+        Ok(_) => (0, 0),
+        Err(Refusal { number, slot }) => (number, slot),
+    }
+}
+
+fn changed(base: &[u32; 63], slot: usize, number: u32) -> [u32; 63] {
+    let mut list = *base;
+    list[slot] = number;
+    list
+}
+
+#[test]
+fn a_list_that_is_not_63_long() {
+    assert_eq!(refused(&[]), (1, 0));
+    assert_eq!(refused(&BASE[..62]), (1, 0));
+    assert_eq!(refused(&[BASE.as_slice(), &[0]].concat()), (1, 0));
+}
+
+#[test]
+fn base_sheets_are_taken() {
+    assert_eq!(refused(&BASE), (0, 0));
+    assert_eq!(refused(&base_5a()), (0, 0));
+}
+
+/// Low, high, step of every row of the paper, written out once more.
+fn paper_row(i: usize, k: u32) -> (u32, u32, u32) {
+    match i {
+        0..=3 | 6..=18 => (0, 1, 1),
+        4 => (0, 3, 1),
+        5 => (0, 4, 1),
+        19..=22 => (80_000, 140_000, 100),
+        23 | 24 => (1_000, 40_000, 100),
+        25 | 26 => (100 * k, 40_000 * k, 1),
+        27 => (50 * k, 5_000 * k, 1),
+        28 | 32 => (5_000, 200_000, 100),
+        29 => (5_000, 100_000, 100),
+        30 => (2_000, 100_000, 100),
+        31 => (2_000, 60_000, 100),
+        33..=37 => (20, 36_000, 1),
+        38 | 39 | 41..=47 => (0, 36_000, 1),
+        40 => (20, 2_000, 1),
+        48..=50 => (1, 40, 1),
+        51 => (0, 499_999, 1),
+        52 => (1, 500_000, 1),
+        53..=62 => (0, 40, 1),
+        _ => unreachable!(),
+    }
+}
+
+#[test]
+fn every_row_has_its_ends_and_its_step() {
+    for (i, range) in RANGES.iter().enumerate() {
+        for k in [1, 5] {
+            let (low, high, step) = paper_row(i, k);
+            for number in [low, high, low + step, high - step] {
+                assert!(range.takes(number, k), "slot {i}: {number}");
+            }
+            let outside = [low.wrapping_sub(1), high + 1, u32::MAX];
+            for number in outside {
+                assert!(!range.takes(number, k), "slot {i}: {number}");
+            }
+            assert_eq!(range.takes(low + 1, k), step == 1, "slot {i}");
+        }
+    }
+}
+
+#[test]
+fn the_lowest_bad_slot_is_named() {
+    let mut list = changed(&BASE, 60, 41);
+    assert_eq!(refused(&list), (2, 60));
+    list[33] = 19;
+    assert_eq!(refused(&list), (2, 33));
+    list[1] = 2;
+    assert_eq!(refused(&list), (2, 1));
+}
+
+#[test]
+fn currents_go_with_the_module() {
+    assert_eq!(refused(&changed(&BASE, 25, 40_001)), (2, 25));
+    assert_eq!(refused(&changed(&base_5a(), 25, 40_001)), (0, 0));
+    assert_eq!(refused(&changed(&base_5a(), 25, 499)), (2, 25));
+    assert_eq!(refused(&changed(&BASE, 1, 1)), (2, 27));
+}
+
+#[test]
+fn taps_must_be_in_order() {
+    assert_eq!(refused(&changed(&BASE, slot::N_L, 40)), (3, 49));
+    let mut list = changed(&BASE, slot::N_R, 20);
+    list[slot::N_L] = 21;
+    assert_eq!(refused(&list), (3, 49));
+    assert_eq!(refused(&changed(&BASE, slot::N_L, 21)), (3, 48));
+    assert_eq!(refused(&changed(&BASE, slot::N_R, 19)), (3, 48));
+    assert_eq!(refused(&changed(&BASE, slot::N_R, 20)), (0, 0));
+    // A slot out of range comes before the order of the taps.
+    list[62] = 41;
+    assert_eq!(refused(&list), (2, 62));
+}
+
+#[test]
+fn the_fresh_record() {
+    let list = changed(&BASE, slot::N_START, 77);
+    let record = check(&list).unwrap();
+    assert_eq!(record.settings, list);
+    assert!(record
+        .organs
+        .iter()
+        .all(|organ| !organ.marked && organ.count == 0));
+    assert_eq!((record.drive, record.fault), (Drive::Rest, Fault::None));
+    assert_eq!((record.fault_age, record.wait), (0, Wait::None));
+    assert_eq!((record.repeat, record.last_direction), (None, None));
+    assert_eq!((record.counted_tap, record.operations), (20, 77));
+    assert!(record.raise_button && record.lower_button);
+    assert!(within_limits(&record));
+}
+
+#[test]
+fn the_record_of_zeros_is_outside_its_limits() {
+    assert!(!within_limits(&Record::zeros()));
+}
