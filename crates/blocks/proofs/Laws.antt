@@ -1,7 +1,7 @@
 -- What a fault blocks.
 -- Assumes nothing.
 use mathlib.Core.Path.{_≡_, refl}
-use mathlib.Core.Bool.{Bool, true, false, _||_}
+use mathlib.Core.Bool.{Bool, true, false, _||_, true≢false}
 use mathlib.Core.List.{List}
 use Prim.Native.Nat.{ℕ}
 use Rattle.input.specs.declared.Contacts.{Contacts}
@@ -26,3 +26,26 @@ module _ (s : List ℕ) (c : Contacts) (f : Found) (e : f .fault ≡ true) where
   pub fault-blocks-manual : blocksOf s c f .manual ≡ true
   unfolding blocksOf
   fault-blocks-manual = rw common
+
+or-left : (a b : Bool) → (a || b) ≡ false → a ≡ false
+or-left true b e = e
+or-left false b e = refl
+
+or-right : (a b : Bool) → (a || b) ≡ false → b ≡ false
+or-right true b e = absurd (true≢false e)
+or-right false b e = e
+
+-- where automatic is not blocked, there is no local drive and no fault
+module _ (s : List ℕ) (c : Contacts) (f : Found) (e : blocksOf s c f .automatic ≡ false) where
+  common-free : commonOf c (f .fault) ≡ false
+  unfolding blocksOf
+  common-free = or-left _ _ (or-left _ _ (or-left _ _ (or-left _ _ e)))
+
+  pub automatic-no-fault : f .fault ≡ false
+  automatic-no-fault =
+      or-right (c .«supply_off» || c .«oil_cold» || c .«oil_low» || c .«oil_high» || c .overcurrent || c .«external_block» || c .«local_drive») _ common-free
+
+  pub automatic-not-local : c .«local_drive» ≡ false
+  automatic-not-local =
+      or-right (c .«supply_off» || c .«oil_cold» || c .«oil_low» || c .«oil_high» || c .overcurrent || c .«external_block») _
+      (or-left _ (f .fault) common-free)

@@ -31,6 +31,10 @@ pub record Waits (s : List ℕ) (x : Situation) (o : Decided) (d : Direction) (n
   pub command : o .command ≡ Neither
   pub resting : x .resting ≡ true
   pub early : n < delayOf s d (x .far) (x .repeat)
+  pub automatic : x .automatic ≡ true
+  pub side : x .side ≡ To d
+  pub mode : x .blocks .automatic ≡ false
+  pub direction : opposedOf (x .blocks) d ≡ false
 
 pub record Begun (x : Situation) (d : Direction) : Type 0 where
   pub resting : x .resting ≡ true
@@ -85,29 +89,38 @@ module _ (s : List ℕ) (x : Situation) where
         begins = λ e q. rw (← same-to d e q) b;
       }
 
-  waiting-good : (d : Direction) (n : ℕ) → x .resting ≡ true → n < delayOf s d (x .far) (x .repeat) → Good (record { command = Neither; wait = For d n })
-  waiting-good d n r l =
+  waiting-good : (d : Direction) (n : ℕ) → x .resting ≡ true → x .automatic ≡ true → x .side ≡ To d → (x .blocks .automatic || opposedOf (x .blocks) d) ≡ false
+      → n < delayOf s d (x .far) (x .repeat) → Good (record { command = Neither; wait = For d n })
+  waiting-good d n r a w f l =
       record {
         waits = λ e k q.
-            let p : d ≡ e = cc in
-            let m : n ≡ k = cc in
-            record { command = refl; resting = r; early = rw (← p, ← m) l };
+          let p : d ≡ e = cc in
+          let m : n ≡ k = cc in
+          record {
+            command = refl;
+            resting = r;
+            early = rw (← p, ← m) l;
+            automatic = a;
+            side = rw (← p) w;
+            mode = or-left _ _ f;
+            direction = rw (← p) (or-right (x .blocks .automatic) _ f);
+          };
         begins = λ e q. absurd (let z : _≡_ {A = ℕ} 0 1 = cc in omega arith);
       }
 
-  toward-good : x .resting ≡ true → x .automatic ≡ true → (d : Direction) → Good (towardOf s x d)
+  toward-good : x .resting ≡ true → x .automatic ≡ true → (d : Direction) → x .side ≡ To d → Good (towardOf s x d)
   unfolding towardOf waitOnOf
-  toward-good r a d =
+  toward-good r a d w =
       chosen Good _ _ _ (λ p. idle-good)
       (λ p.
       chosen Good _ _ _
       (λ q. commanded-good d (record { resting = r; mode = sym (yes _ _ _ _ a (sym (or-left _ _ p))); direction = or-right (x .blocks .automatic) _ p }))
-      (λ q. waiting-good d _ r (leb-false _ _ q)))
+      (λ q. waiting-good d _ r a w p (leb-false _ _ q)))
 
-  sided-good : x .resting ≡ true → x .automatic ≡ true → (w : Way) → Good (sidedOf s x w)
+  sided-good : x .resting ≡ true → x .automatic ≡ true → (w : Way) → x .side ≡ w → Good (sidedOf s x w)
   unfolding sidedOf
-  sided-good r a Neither = idle-good
-  sided-good r a (To d) = toward-good r a d
+  sided-good r a Neither e = idle-good
+  sided-good r a (To d) e = toward-good r a d e
 
   pressed-good : x .resting ≡ true → x .automatic ≡ false → (w : Way)
       → (raises w && not (x .blocks .manual) && not (x .blocks .raise) || lowers w && not (x .blocks .manual) && not (x .blocks .lower)) ≡ true
@@ -128,5 +141,17 @@ module _ (s : List ℕ) (x : Situation) where
   unfolding decidedOf
   decided-sound =
       chosen Good _ _ _
-      (λ r. chosen Good _ _ _ (λ a. sided-good r a (x .side)) (λ a. manual-good r a))
+      (λ r. chosen Good _ _ _ (λ a. sided-good r a (x .side) refl) (λ a. manual-good r a))
       (λ r. idle-good)
+
+  -- an unblocked deviation in automatic mode, the drive at rest: one tick more of the wait
+  pub decided-waits : (d : Direction) → x .resting ≡ true → x .automatic ≡ true → x .side ≡ To d → x .blocks .automatic ≡ false → opposedOf (x .blocks) d ≡ false
+      → waitOnOf d (waitedOf d (x .wait)) (delayOf s d (x .far) (x .repeat)) ≡ decidedOf s x
+  unfolding decidedOf sidedOf towardOf
+  decided-waits d r a w f g =
+      yes _ _ _ _ r (yes _ _ _ _ a (rw w (no _ _ _ _ (ap (λ (b : Bool). b || opposedOf (x .blocks) d) f ∙ g) refl)))
+
+  -- a drive that does not rest: nothing
+  pub decided-idle : x .resting ≡ false → idleOf ≡ decidedOf s x
+  unfolding decidedOf
+  decided-idle r = no _ _ _ _ r refl

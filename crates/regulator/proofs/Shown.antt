@@ -1,0 +1,186 @@
+-- What a tick in service shows and leaves, field by field; and what each shows of the rules' own values.
+-- Assumes nothing.
+use mathlib.Core.Path.{_≡_, refl, sym, ap, _∙_}
+use mathlib.Core.Bool.{Bool, true, false, not, _&&_, _||_}
+use mathlib.Core.List.{List}
+use Prim.Native.Nat.{ℕ}
+use native.Mathlib.Omega.{arith}
+use lib.Dec.{eqb}
+use Rattle.slots.specs.Slots.{slot, t7}
+use Rattle.busbar.specs.declared.voltage.Level.{Level}
+use Rattle.busbar.specs.declared.voltage.Level.the-variants.{Missing, Low, InBand, High}
+use Rattle.drive.specs.declared.Direction.{Direction}
+use Rattle.drive.specs.declared.Direction.the-variants.{Raise, Lower}
+use Rattle.drive.specs.declared.Drive.{Drive}
+use Rattle.drive.specs.declared.Fault.{Fault}
+use Rattle.drive.specs.declared.Fault.the-variants.{NoFault, RunAway, NotStarted, Long, Fast}
+use Rattle.drive.specs.declared.Way.{Way}
+use Rattle.drive.specs.declared.Way.the-variants.{Neither, To}
+use Rattle.drive.specs.Follow.{restsOf}
+use Rattle.drive.specs.Latches.{isFault}
+use Rattle.drive.specs.Shown.{onOf, fieldOf}
+use Rattle.drive.specs.Ways.{raises, lowers, isTo}
+use Rattle.input.specs.declared.Contacts.{Contacts}
+use Rattle.input.specs.declared.Input.{Input}
+use Rattle.input.specs.Brought.{contactsOf}
+use Rattle.blocks.specs.declared.Blocks.{Blocks}
+use Rattle.command.specs.declared.Decided.{Decided}
+use Rattle.command.specs.declared.Situation.{Situation}
+use Rattle.command.specs.Automatic.{opposedOf}
+use Rattle.command.specs.Deciding.{decidedOf}
+use Rattle.record.specs.declared.Regulator.{Regulator}
+use Rattle.stages.specs.declared.supervising.Supervised.{Supervised}
+use Rattle.stages.specs.Commanding.{sideOf, askOf, situationOf, decisionOf, regulatedOf}
+use Rattle.stages.specs.Showing as showing
+use Rattle.stages.specs.Showing.{isLow, isHigh, signalsOf, fieldsOf, outputsOf}
+use Rattle.regulator.specs.declared.Sensed.{Sensed}
+use Rattle.regulator.specs.declared.Ticked.{Ticked}
+use Rattle.regulator.specs.Lists.{output, commandField, blockField, sideField}
+use Rattle.regulator.specs.Ticks.{sensedOf, supervisedIn, blockedIn, memoryOf, regulatedIn, actedOf, nextOf, endOf, ranOf}
+
+-- ---- the values of the rules on a tick
+
+abbrev pub contactsAt : Input → Contacts
+contactsAt i = contactsOf (i .contacts)
+
+abbrev pub sensedAt : Regulator → Input → Sensed
+sensedAt r i = sensedOf r i (contactsAt i)
+
+abbrev pub supervisedAt : Regulator → Input → Supervised
+supervisedAt r i = supervisedIn r (contactsAt i) (sensedAt r i)
+
+abbrev pub blocksAt : Regulator → Input → Blocks
+blocksAt r i = blockedIn r (contactsAt i) (sensedAt r i) (supervisedAt r i)
+
+abbrev pub situationAt : Regulator → Input → Situation
+situationAt r i = situationOf (contactsAt i) (sensedAt r i .assessed) (blocksAt r i) (memoryOf r) (supervisedAt r i .drive)
+
+abbrev pub decidedAt : Regulator → Input → Decided
+decidedAt r i = decidedOf (r .settings) (situationAt r i)
+
+abbrev pub driveAt : Regulator → Input → Drive
+driveAt r i = askOf (supervisedAt r i .drive) (decidedAt r i .command)
+
+abbrev pub liveAt : Regulator → Input → Ticked
+liveAt r i = ranOf r i (contactsAt i)
+
+-- the command that is on, to a side
+abbrev pub onTo : Direction → Drive → ℕ → Bool
+onTo d e n = isTo d (onOf e n)
+
+abbrev pub levelTo : Direction → Level → Bool
+levelTo Raise l = isLow l
+levelTo Lower l = isHigh l
+
+module _ (r : Regulator) (i : Input) where
+  pub live-drive : liveAt r i .next .drive ≡ driveAt r i
+  unfolding ranOf endOf nextOf actedOf regulatedIn regulatedOf decisionOf
+  live-drive = refl
+
+  pub live-wait : liveAt r i .next .wait ≡ decidedAt r i .wait
+  unfolding ranOf endOf nextOf actedOf regulatedIn regulatedOf decisionOf
+  live-wait = refl
+
+  pub live-settings : liveAt r i .next .settings ≡ r .settings
+  unfolding ranOf endOf nextOf
+  live-settings = refl
+
+  pub live-accepted : liveAt r i .reply .refusal ≡ 0
+  unfolding ranOf endOf
+  live-accepted = refl
+
+  pub live-on : (d : Direction) → output (commandField d) (liveAt r i) ≡ showing.bitOf (onTo d (driveAt r i) (slot (r .settings) t7))
+  unfolding ranOf endOf actedOf regulatedIn regulatedOf decisionOf outputsOf fieldsOf signalsOf
+  live-on Raise = refl
+  live-on Lower = refl
+
+  pub live-moving : output 24 (liveAt r i) ≡ showing.bitOf (not (restsOf (driveAt r i)))
+  unfolding ranOf endOf actedOf regulatedIn regulatedOf decisionOf outputsOf fieldsOf signalsOf
+  live-moving = refl
+
+  pub live-automatic : output 13 (liveAt r i) ≡ showing.bitOf (blocksAt r i .automatic)
+  unfolding ranOf endOf actedOf outputsOf fieldsOf
+  live-automatic = refl
+
+  pub live-manual : output 14 (liveAt r i) ≡ showing.bitOf (blocksAt r i .manual)
+  unfolding ranOf endOf actedOf outputsOf fieldsOf
+  live-manual = refl
+
+  pub live-opposed : (d : Direction) → output (blockField d) (liveAt r i) ≡ showing.bitOf (opposedOf (blocksAt r i) d)
+  unfolding ranOf endOf actedOf outputsOf fieldsOf
+  live-opposed Raise = refl
+  live-opposed Lower = refl
+
+  pub live-level : (d : Direction) → output (sideField d) (liveAt r i) ≡ showing.bitOf (levelTo d (sensedAt r i .assessed .level))
+  unfolding ranOf endOf outputsOf fieldsOf signalsOf
+  live-level Raise = refl
+  live-level Lower = refl
+
+  pub live-run-away : output 19 (liveAt r i) ≡ showing.bitOf (eqb (fieldOf (supervisedAt r i .latch .fault)) 19)
+  unfolding ranOf endOf actedOf outputsOf fieldsOf signalsOf
+  live-run-away = refl
+
+  pub live-not-started : output 20 (liveAt r i) ≡ showing.bitOf (eqb (fieldOf (supervisedAt r i .latch .fault)) 20)
+  unfolding ranOf endOf actedOf outputsOf fieldsOf signalsOf
+  live-not-started = refl
+
+  pub live-long : output 21 (liveAt r i) ≡ showing.bitOf (eqb (fieldOf (supervisedAt r i .latch .fault)) 21)
+  unfolding ranOf endOf actedOf outputsOf fieldsOf signalsOf
+  live-long = refl
+
+  pub live-fast : output 22 (liveAt r i) ≡ showing.bitOf (eqb (fieldOf (supervisedAt r i .latch .fault)) 22)
+  unfolding ranOf endOf actedOf outputsOf fieldsOf signalsOf
+  live-fast = refl
+
+-- ---- flags, faults and sides
+
+pub flag-on : (b : Bool) → showing.bitOf b ≡ 1 → b ≡ true
+flag-on true e = refl
+flag-on false e = absurd (omega arith)
+
+pub flag-off : (b : Bool) → showing.bitOf b ≡ 0 → b ≡ false
+flag-off true e = absurd (omega arith)
+flag-off false e = refl
+
+pub flag-rests : (b : Bool) → eqb (showing.bitOf (not b)) 0 ≡ b
+flag-rests true = refl
+flag-rests false = refl
+
+-- the four fields of faults are all 0 exactly without a fault
+pub no-fault : (f : Fault) → showing.bitOf (eqb (fieldOf f) 19) ≡ 0 → showing.bitOf (eqb (fieldOf f) 20) ≡ 0
+    → showing.bitOf (eqb (fieldOf f) 21) ≡ 0 → showing.bitOf (eqb (fieldOf f) 22) ≡ 0 → isFault f ≡ false
+no-fault NoFault a b c d = refl
+no-fault RunAway a b c d = absurd (omega arith)
+no-fault NotStarted a b c d = absurd (omega arith)
+no-fault Long a b c d = absurd (omega arith)
+no-fault Fast a b c d = absurd (omega arith)
+
+pub no-field : (f : Fault) → isFault f ≡ false
+    → (showing.bitOf (eqb (fieldOf f) 19) ≡ 0) × (showing.bitOf (eqb (fieldOf f) 20) ≡ 0) × (showing.bitOf (eqb (fieldOf f) 21) ≡ 0) × (showing.bitOf (eqb (fieldOf f) 22) ≡ 0)
+no-field NoFault e = (refl, refl, refl, refl)
+no-field RunAway e = absurd (let z : _≡_ {A = Bool} true false = e in let y : _≡_ {A = ℕ} 0 1 = cc in omega arith)
+no-field NotStarted e = absurd (let z : _≡_ {A = Bool} true false = e in let y : _≡_ {A = ℕ} 0 1 = cc in omega arith)
+no-field Long e = absurd (let z : _≡_ {A = Bool} true false = e in let y : _≡_ {A = ℕ} 0 1 = cc in omega arith)
+no-field Fast e = absurd (let z : _≡_ {A = Bool} true false = e in let y : _≡_ {A = ℕ} 0 1 = cc in omega arith)
+
+pub level-side : (d : Direction) (l : Level) → levelTo d l ≡ true → sideOf l ≡ To d
+unfolding sideOf
+level-side Raise Low e = refl
+level-side Raise Missing e = let z : _≡_ {A = Bool} false true = e in cc
+level-side Raise InBand e = let z : _≡_ {A = Bool} false true = e in cc
+level-side Raise High e = let z : _≡_ {A = Bool} false true = e in cc
+level-side Lower High e = refl
+level-side Lower Missing e = let z : _≡_ {A = Bool} false true = e in cc
+level-side Lower InBand e = let z : _≡_ {A = Bool} false true = e in cc
+level-side Lower Low e = let z : _≡_ {A = Bool} false true = e in cc
+
+pub side-level : (d : Direction) (l : Level) → sideOf l ≡ To d → levelTo d l ≡ true
+unfolding sideOf
+side-level Raise Low e = refl
+side-level Raise Missing e = let z : _≡_ {A = ℕ} 0 1 = cc in absurd (omega arith)
+side-level Raise InBand e = let z : _≡_ {A = ℕ} 0 1 = cc in absurd (omega arith)
+side-level Raise High e = let z : _≡_ {A = ℕ} 0 1 = cc in absurd (omega arith)
+side-level Lower High e = refl
+side-level Lower Missing e = let z : _≡_ {A = ℕ} 0 1 = cc in absurd (omega arith)
+side-level Lower InBand e = let z : _≡_ {A = ℕ} 0 1 = cc in absurd (omega arith)
+side-level Lower Low e = let z : _≡_ {A = ℕ} 0 1 = cc in absurd (omega arith)

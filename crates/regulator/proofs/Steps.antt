@@ -1,0 +1,169 @@
+-- One-step laws: what a single tick does, as the claim about lists needs it.
+-- Assumes nothing.
+use mathlib.Core.Path.{_≡_, refl, sym, ap, _∙_, subst}
+use mathlib.Core.Bool.{Bool, true, false, not, _&&_, _||_, true≢false, false≢true}
+use mathlib.Core.List.{List}
+use mathlib.Core.Logic.{_⊎_, inl, inr, ⊎-elim}
+use Prim.Native.Nat.{ℕ, _+_, _≤_, _<_, max}
+use native.Mathlib.Omega.{arith}
+use borrow.Author.Tests.{leb-true, leb-false, eqb-false, eq-eqb}
+use lib.Dec.{leb, eqb}
+use Rattle.common.specs.Choice.{choose}
+use Rattle.common.proofs.Cases.{yes, no, chosen}
+use Rattle.slots.specs.Slots.{slot, inService, t1, t2, t3, t7}
+use Rattle.sheet.specs.Sheet.{passesOf}
+use Rattle.sheet.specs.Table.{rowOf, rowIn}
+use Rattle.sheet.proofs.Every.{and-left, and-right}
+use Rattle.sheet.proofs.Laws.{in-run, t1-range, t2-range, t3-range}
+use Rattle.drive.specs.declared.Direction.{Direction}
+use Rattle.drive.specs.declared.Direction.the-variants.{Raise, Lower}
+use Rattle.drive.specs.declared.Drive.{Drive}
+use Rattle.drive.specs.declared.Drive.the-variants.{Resting, Asked}
+use Rattle.drive.specs.declared.Way.{Way}
+use Rattle.drive.specs.declared.Way.the-variants.{Neither, To}
+use Rattle.drive.specs.declared.follow.Contact.{Contact}
+use Rattle.drive.specs.declared.follow.Followed.{Followed}
+use Rattle.drive.specs.Follow.{unmovedOf, followOf, restsOf}
+use Rattle.drive.specs.Latches.{isFault, latchedOf}
+use Rattle.drive.specs.Shown.{onOf}
+use Rattle.drive.specs.Ways.{isTo}
+use Rattle.drive.proofs.Serving.{rests-is, rest-silent, rest-open, rest-needs-open, later-none, one-way, is-to-self, is-to-is, is-to-neither}
+use Rattle.input.specs.declared.Input.{Input}
+use Rattle.blocks.proofs.Laws.{automatic-no-fault, automatic-not-local}
+use Rattle.command.specs.declared.Decided.{Decided}
+use Rattle.command.specs.declared.Wait.{Wait}
+use Rattle.command.specs.declared.Wait.the-variants.{Idle, For}
+use Rattle.command.specs.Automatic.{ticksOf, waitedOf, opposedOf, delayOf, waitOnOf}
+use Rattle.command.proofs.Sound.{Sound, decided-sound, decided-waits}
+use Rattle.record.specs.declared.Regulator.{Regulator}
+use Rattle.record.specs.Limits.{withinOf}
+use Rattle.record.specs.Starting.{freshOf}
+use Rattle.stages.specs.Commanding.{blockedOf, sideOf, askOf, situationOf}
+use Rattle.stages.specs.Showing as showing
+use Rattle.stages.specs.Supervising.{contactOf, clearedOf, followedOf, supervisedOf}
+use Rattle.regulator.specs.declared.Ticked.{Ticked}
+use Rattle.regulator.specs.Ticks.{supervisedIn, blockedIn, ranOf, isOut, outOf, refusedOf, tickOf}
+use Rattle.regulator.specs.Lists.{output, Tick, restAfter, commandField, blockField, sideField, modeField, Begins, Lasting, Waiting, NoWait, delayIn, longest}
+use Rattle.regulator.proofs.Next.{pass, tick-lasting}
+use Rattle.regulator.proofs.Shown.{contactsAt, sensedAt, supervisedAt, blocksAt, situationAt, decidedAt, driveAt, liveAt, onTo, levelTo, live-drive, live-wait, live-settings, live-accepted, live-on, live-moving, live-automatic, live-manual, live-opposed, live-level, live-run-away, live-not-started, live-long, live-fast, flag-on, flag-off, flag-rests, no-fault, no-field, level-side, side-level}
+
+-- ---- a tick of a list
+
+abbrev pub tickAt : Bool → Regulator → Input → Tick
+tickAt rest r i = record { rest = rest; got = r; brought = i; gave = tickOf r i }
+
+abbrev pub nextAt : Regulator → Input → Regulator
+nextAt r i = tickOf r i .next
+
+abbrev pub restAt : Regulator → Input → Bool
+restAt r i = restAfter (tickOf r i)
+
+-- the wait to a side
+abbrev pub waitTo : Direction → Regulator → ℕ
+waitTo d r = waitedOf d (r .wait)
+
+-- rest as the outputs tell it is rest as the record has it
+abbrev pub Linked : Bool → Regulator → Type 0
+Linked rest r = withinOf r ≡ true → rest ≡ restsOf (r .drive)
+
+-- ---- refused, out or in service
+
+module _ (r : Regulator) (i : Input) where
+  -- what holds of a tick in each of its three cases
+  pub tick-cases : (P : Ticked → Type 0) → (withinOf r ≡ false → P (refusedOf r)) → (withinOf r ≡ true → isOut r (contactsAt i) ≡ true → P (outOf r))
+      → (withinOf r ≡ true → isOut r (contactsAt i) ≡ false → P (liveAt r i)) → P (tickOf r i)
+  unfolding tickOf
+  tick-cases P refused out live =
+      chosen P (withinOf r) _ _ (λ h. chosen P _ _ _ (λ o. out h o) (λ o. live h o)) (λ h. refused h)
+
+  pub live-is : withinOf r ≡ true → isOut r (contactsAt i) ≡ false → tickOf r i ≡ liveAt r i
+  unfolding tickOf
+  live-is h o = sym (yes _ _ _ _ h (no _ _ _ _ o refl))
+
+  pub out-is : withinOf r ≡ true → isOut r (contactsAt i) ≡ true → tickOf r i ≡ outOf r
+  unfolding tickOf
+  out-is h o = sym (yes _ _ _ _ h (yes _ _ _ _ o refl))
+
+  pub accepted-is : tickOf r i .reply .refusal ≡ choose (withinOf r) 0 4
+  unfolding refusedOf outOf
+  accepted-is =
+      tick-cases (λ (t : Ticked). t .reply .refusal ≡ choose (withinOf r) 0 4) (λ h. no _ _ _ _ h refl) (λ h o. yes _ _ _ _ h refl)
+      (λ h o. yes _ _ _ _ h (live-accepted r i))
+
+  pub accepted-within : tickOf r i .reply .refusal ≡ 0 → withinOf r ≡ true
+  unfolding refusedOf
+  accepted-within =
+      tick-cases (λ (t : Ticked). t .reply .refusal ≡ 0 → withinOf r ≡ true) (λ h e. absurd (omega arith)) (λ h o e. h) (λ h o e. h)
+
+  pub settings-kept : nextAt r i .settings ≡ r .settings
+  unfolding refusedOf outOf freshOf
+  settings-kept = tick-cases (λ (t : Ticked). t .next .settings ≡ r .settings) (λ h. refl) (λ h o. refl) (λ h o. live-settings r i)
+
+  pub within-kept : withinOf (nextAt r i) ≡ withinOf r
+  within-kept = tick-lasting r i
+
+  pub linked-kept : withinOf r ≡ true → restAt r i ≡ restsOf (nextAt r i .drive)
+  unfolding outOf freshOf
+  linked-kept w =
+      tick-cases (λ (t : Ticked). restAfter t ≡ restsOf (t .next .drive)) (λ h. absurd (true≢false (sym w ∙ h))) (λ h o. refl)
+      (λ h o. ap (λ (n : ℕ). eqb n 0) (live-moving r i) ∙ flag-rests (restsOf (driveAt r i)) ∙ ap restsOf (sym (live-drive r i)))
+
+  pub never-both : output 0 (tickOf r i) ≡ 1 → output 1 (tickOf r i) ≡ 1 → ⊥
+  unfolding refusedOf outOf
+  never-both =
+      tick-cases (λ (t : Ticked). output 0 t ≡ 1 → output 1 t ≡ 1 → ⊥) (λ h p q. omega arith) (λ h o p q. omega arith)
+      (λ h o p q.
+      one-way (onOf (driveAt r i) (slot (r .settings) t7)) (flag-on _ (sym (live-on r i Raise) ∙ p)) (flag-on _ (sym (live-on r i Lower) ∙ q)))
+
+-- ---- a tick in service, lasting to a side
+
+-- the contact as rule 7 sees it
+abbrev pub contactAt : Regulator → Input → Contact
+contactAt r i = contactOf (r .settings) (contactsAt i) (sensedAt r i .observed .position .tap) (clearedOf (contactsAt i) (r .latch)) (r .last)
+
+module _ (r : Regulator) (i : Input) where
+  pub followed-is : supervisedAt r i .drive ≡ followOf (r .drive) (contactAt r i) .drive
+  unfolding supervisedIn supervisedOf followedOf
+  followed-is = refl
+
+  pub no-fault-before : isFault (supervisedAt r i .latch .fault) ≡ false
+      → (isFault (followOf (r .drive) (contactAt r i) .fault) ≡ false) × (contactAt r i .faulty ≡ false)
+  unfolding supervisedIn supervisedOf followedOf latchedOf contactOf
+  no-fault-before e = later-none _ _ e
+
+  pub blocks-no-fault : blocksAt r i .automatic ≡ false → isFault (supervisedAt r i .latch .fault) ≡ false
+  unfolding blockedIn blockedOf
+  blocks-no-fault e = automatic-no-fault (r .settings) (contactsAt i) _ e
+
+  pub blocks-not-local : blocksAt r i .automatic ≡ false → contactAt r i .local ≡ false
+  unfolding blockedIn blockedOf contactOf
+  blocks-not-local e = automatic-not-local (r .settings) (contactsAt i) _ e
+
+  not-out : slot (r .settings) inService ≡ 1 → contactsAt i .out ≡ false → isOut r (contactsAt i) ≡ false
+  unfolding isOut
+  not-out e o = rw (e, o)
+
+-- what a lasting tick is
+pub record Live (d : Direction) (r : Regulator) (i : Input) : Type 0 where
+  pub within : withinOf r ≡ true
+  pub is : tickOf r i ≡ liveAt r i
+  pub automatic : contactsAt i .automatic ≡ true
+  pub side : sideOf (sensedAt r i .assessed .level) ≡ To d
+  pub mode : blocksAt r i .automatic ≡ false
+  pub direction : opposedOf (blocksAt r i) d ≡ false
+  pub fault : isFault (supervisedAt r i .latch .fault) ≡ false
+
+pub live-of : (d : Direction) (rest : Bool) (r : Regulator) (i : Input) → Lasting d (tickAt rest r i) → Live d r i
+live-of d rest r i l =
+    let w = accepted-within r i (l .accepted) in
+    let e = live-is r i w (not-out r i (l .inService) (l .notOut)) in
+    let m : blocksAt r i .automatic ≡ false = flag-off _ (sym (live-automatic r i) ∙ sym (ap (output 13) e) ∙ l .modeFree) in
+    record {
+      within = w;
+      is = e;
+      automatic = l .automatic;
+      side = level-side d _ (flag-on _ (sym (live-level r i d) ∙ sym (ap (output (sideField d)) e) ∙ l .deviates));
+      mode = m;
+      direction = flag-off _ (sym (live-opposed r i d) ∙ sym (ap (output (blockField d)) e) ∙ l .sideFree);
+      fault = blocks-no-fault r i m;
+    }
