@@ -94,17 +94,17 @@ module _ (s : List ℕ) (x : Situation) where
   waiting-good d n r a w f l =
       record {
         waits = λ e k q.
-          let p : d ≡ e = cc in
-          let m : n ≡ k = cc in
-          record {
-            command = refl;
-            resting = r;
-            early = rw (← p, ← m) l;
-            automatic = a;
-            side = rw (← p) w;
-            mode = or-left _ _ f;
-            direction = rw (← p) (or-right (x .blocks .automatic) _ f);
-          };
+            let p : d ≡ e = cc in
+            let m : n ≡ k = cc in
+            record {
+              command = refl;
+              resting = r;
+              early = rw (← p, ← m) l;
+              automatic = a;
+              side = rw (← p) w;
+              mode = or-left _ _ f;
+              direction = rw (← p) (or-right (x .blocks .automatic) _ f);
+            };
         begins = λ e q. absurd (let z : _≡_ {A = ℕ} 0 1 = cc in omega arith);
       }
 

@@ -4,3 +4,7 @@ pub mod Next
 pub mod Shown
 pub mod Steps
 pub mod Waits
+pub mod Moves
+pub mod Rows
+pub mod Serve
+pub mod Claim

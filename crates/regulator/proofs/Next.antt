@@ -136,9 +136,6 @@ tick-lasting r i =
     (λ p. next-within r h i (contactsOf (i .contacts)) ∙ sym h))
     (λ h. refl)
 
-pub ticked : (r : Regulator) (i : Input) {t : Ticked} → t ≡ tickOf r i → (t ≡ tickOf r i) × (withinOf (t .next) ≡ withinOf r)
-ticked r i e = (e, ap (λ (t : Ticked). withinOf (t .next)) e ∙ tick-lasting r i)
-
 -- the three ways of a tick
 module _ (r : Regulator) (i : Input) {t : Ticked} {b : Bool} {c : Contacts} (w : b ≡ withinOf r) where
   pub tick-out : c ≡ contactsOf (i .contacts) → b ≡ true → (eqb (slot (r .settings) inService) 0 || c .out) ≡ true → t ≡ outOf r

@@ -5,6 +5,7 @@ use mathlib.Core.Bool.{Bool, true, false, not, _&&_, _||_, true≢false, false�
 use mathlib.Core.List.{List}
 use mathlib.Core.Logic.{_⊎_, inl, inr, ⊎-elim}
 use Prim.Native.Nat.{ℕ, _+_, _≤_, _<_, max}
+use native.Mathlib.Nat.{eq-zero-or-pos}
 use native.Mathlib.Omega.{arith}
 use borrow.Author.Tests.{leb-true, leb-false, eqb-false}
 use lib.Dec.{leb, eqb}
@@ -84,8 +85,8 @@ module _ (d : Direction) (rest : Bool) (r : Regulator) (i : Input) (k : Linked r
         within = w;
         is = e;
         command =
-          on-decided d r i (slot (r .settings) t7) (sym (k w) ∙ b .rest) (decidedAt r i .command)
-          (flag-on _ (sym (live-on r i d) ∙ sym (ap (output (commandField d)) e) ∙ b .on));
+            on-decided d r i (slot (r .settings) t7) (sym (k w) ∙ b .rest) (decidedAt r i .command)
+            (flag-on _ (sym (live-on r i d) ∙ sym (ap (output (commandField d)) e) ∙ b .on));
       })
       (split (isOut r (contactsAt i)))
     where
@@ -108,9 +109,10 @@ module _ (d : Direction) (rest : Bool) (r : Regulator) (i : Input) (k : Linked r
   pub begun-free : (output (modeField i) (tickOf r i) ≡ 0) × (output (blockField d) (tickOf r i) ≡ 0)
   unfolding situationOf
   begun-free =
-      let s = decided-sound (r .settings) (situationAt r i) .begins d (begun .command) in
-      (ap (output (modeField i)) (begun .is) ∙ mode-free (contactsAt i .automatic) refl (s .mode),
-      ap (output (blockField d)) (begun .is) ∙ live-opposed r i d ∙ ap showing.bitOf (s .direction))
+      let s = decided-sound (r .settings) (situationAt r i) .begins d (begun .command) in (
+        ap (output (modeField i)) (begun .is) ∙ mode-free (contactsAt i .automatic) refl (s .mode),
+        ap (output (blockField d)) (begun .is) ∙ live-opposed r i d ∙ ap showing.bitOf (s .direction),
+      )
 
 -- ---- the delay in force
 
@@ -129,3 +131,162 @@ delay-least s e d far w =
 
 pub force-least : (d : Direction) (r : Regulator) (i : Input) → withinOf r ≡ true → 20 ≤ delayIn d r i
 force-least d r i h = delay-least (r .settings) (pass r h) d _ _
+
+-- ---- a waiting tick
+
+-- the wait of a record to a side that holds none there
+waited-none : (d : Direction) (w : Wait) → ((n : ℕ) → w ≡ For d n → n ≡ 0) → waitedOf d w ≡ 0
+unfolding waitedOf ticksOf
+waited-none d Idle h = refl
+waited-none d (For e n) h =
+    chosen (λ k. k ≡ 0) (isTo d (To e)) n 0 (λ p. h n (ap (λ (f : Direction). For f n) (is-to-is d e p))) (λ p. refl)
+
+pub no-wait-is : (d : Direction) (r : Regulator) → NoWait d r → waitTo d r ≡ 0
+no-wait-is d r h = waited-none d (r .wait) h
+
+waited-self : (d : Direction) (n : ℕ) → waitedOf d (For d n) ≡ n
+unfolding waitedOf ticksOf
+waited-self d n = sym (yes _ _ _ _ (is-to-self d) refl)
+
+-- where the wait goes on with this tick
+pub record Goes (d : Direction) (rest : Bool) (r : Regulator) (i : Input) : Type 0 where
+  pub none : Begins d (tickAt rest r i) → ⊥
+  pub early : waitTo d r + 1 < delayIn d r i
+  pub more : waitTo d (nextAt r i) ≡ waitTo d r + 1
+  pub rests : restAt r i ≡ true
+
+-- where it has reached the delay
+pub record Comes (d : Direction) (rest : Bool) (r : Regulator) (i : Input) : Type 0 where
+  pub begins : Begins d (tickAt rest r i)
+  pub due : delayIn d r i ≤ waitTo d r + 1
+
+module _ (d : Direction) (rest : Bool) (r : Regulator) (i : Input) (k : Linked rest r) (w : Waiting d (tickAt rest r i)) where
+  l : Live d r i
+  l = live-of d rest r i (w .lasting)
+
+  rested : restsOf (r .drive) ≡ true
+  rested = sym (k (l .within)) ∙ w .rest
+
+  opened : contactAt r i .closed ≡ false
+  unfolding contactOf
+  opened = w .contact
+
+  still : supervisedAt r i .drive ≡ Resting
+  still = followed-is r i ∙ ap (λ (o : Followed). o .drive) (sym (rest-open (contactAt r i) (r .drive) rested opened))
+
+  resting : situationAt r i .resting ≡ true
+  unfolding situationOf
+  resting = rw (rested, still)
+
+  decision : waitOnOf d (waitTo d r) (delayIn d r i) ≡ decidedAt r i
+  unfolding situationOf
+  decision = decided-waits (r .settings) (situationAt r i) d resting (l .automatic) (l .side) (l .mode) (l .direction)
+
+  comes : delayIn d r i ≤ waitTo d r + 1 → decidedAt r i .command ≡ To d → Comes d rest r i
+  unfolding askOf onOf
+  comes h c =
+      record {
+        begins =
+            record {
+              accepted = w .lasting .accepted;
+              rest = w .rest;
+              on =
+                  ap (output (commandField d)) (l .is) ∙ live-on r i d
+                  ∙ ap showing.bitOf (ap (λ (v : Way). onTo d (askOf (supervisedAt r i .drive) v) (slot (r .settings) t7)) c ∙ is-to-self d);
+            };
+        due = h;
+      }
+
+  goes : waitTo d r + 1 < delayIn d r i → decidedAt r i .command ≡ Neither → decidedAt r i .wait ≡ For d (waitTo d r + 1) → Goes d rest r i
+  unfolding askOf
+  goes h c q =
+      record {
+        none = λ b. let z : To d ≡ Neither = sym (begun d rest r i k b .command) ∙ c in let y : _≡_ {A = ℕ} 0 1 = cc in omega arith;
+        early = h;
+        more = ap (λ (t : Ticked). waitTo d (t .next)) (l .is) ∙ ap (waitedOf d) (live-wait r i ∙ q) ∙ waited-self d (waitTo d r + 1);
+        rests =
+            linked-kept r i (l .within)
+            ∙ ap restsOf (ap (λ (t : Ticked). t .next .drive) (l .is) ∙ live-drive r i ∙ ap (askOf (supervisedAt r i .drive)) c ∙ still);
+      }
+
+  pub wait-step : Comes d rest r i ⊎ Goes d rest r i
+  unfolding waitOnOf
+  wait-step =
+      ⊎-elim
+      (λ t.
+      let e = yes _ _ _ _ t refl ∙ decision in
+      inl (comes (leb-true _ _ t) (sym (ap (λ (o : Decided). o .command) e))))
+      (λ f.
+      let e = no _ _ _ _ f refl ∙ decision in
+      inr (goes (leb-false _ _ f) (sym (ap (λ (o : Decided). o .command) e)) (sym (ap (λ (o : Decided). o .wait) e))))
+      (split (leb (delayIn d r i) (waitTo d r + 1)))
+
+-- ---- a tick that leaves a wait is a waiting tick
+
+or-left : (a b : Bool) → (a || b) ≡ false → a ≡ false
+or-left true b e = e
+or-left false b e = refl
+
+or-right : (a b : Bool) → (a || b) ≡ false → b ≡ false
+or-right true b e = absurd (true≢false e)
+or-right false b e = e
+
+one-left : (n : ℕ) → n ≤ 1 → (n ≡ 0 → ⊥) → n ≡ 1
+one-left n h k = ⊎-elim (λ z. absurd (k z)) (λ p. omega arith) (eq-zero-or-pos n)
+
+in-service : (s : List ℕ) → passesOf s ≡ true → eqb (slot s inService) 0 ≡ false → slot s inService ≡ 1
+unfolding rowOf rowIn choose
+in-service s p e = one-left (slot s inService) (in-run s p inService 1 0 1 refl 0 (omega arith) .1) (eqb-false _ _ e)
+
+module _ (d : Direction) (rest : Bool) (r : Regulator) (i : Input) (k : Linked rest r) (h : withinOf r ≡ true) (o : isOut r (contactsAt i) ≡ false) where
+  waits-at : (n : ℕ) → Waits (r .settings) (situationAt r i) (decidedAt r i) d n → Waiting d (tickAt rest r i)
+  unfolding situationOf isOut contactOf
+  waits-at n q =
+      let e = live-is r i h o in
+      let f = blocks-no-fault r i (q .mode) in
+      let z = no-field (supervisedAt r i .latch .fault) f in
+      let b = no-fault-before r i f in
+      let was : restsOf (r .drive) ≡ true = and-left _ _ (q .resting) in
+      let now : restsOf (followOf (r .drive) (contactAt r i) .drive) ≡ true =
+      ap restsOf (sym (followed-is r i)) ∙ and-right (restsOf (r .drive)) _ (q .resting) in
+      record {
+        lasting =
+            record {
+              accepted = accepted-is r i ∙ sym (yes _ _ _ _ h refl);
+              inService = in-service (r .settings) (pass r h) (or-left _ _ o);
+              notOut = or-right (eqb (slot (r .settings) inService) 0) _ o;
+              automatic = q .automatic;
+              deviates = ap (output (sideField d)) e ∙ live-level r i d ∙ ap showing.bitOf (side-level d _ (q .side));
+              modeFree = ap (output 13) e ∙ live-automatic r i ∙ ap showing.bitOf (q .mode);
+              sideFree = ap (output (blockField d)) e ∙ live-opposed r i d ∙ ap showing.bitOf (q .direction);
+              noRunAway = ap (output 19) e ∙ live-run-away r i ∙ z .0;
+              noNotStarted = ap (output 20) e ∙ live-not-started r i ∙ z .1;
+              noLong = ap (output 21) e ∙ live-long r i ∙ z .2;
+              noFast = ap (output 22) e ∙ live-fast r i ∙ z .3;
+            };
+        rest = k h ∙ was;
+        contact = rest-needs-open (contactAt r i) (r .drive) was (blocks-not-local r i (q .mode)) (b .1) (b .0) now;
+      }
+
+  left-at : (w : Wait) → decidedAt r i .wait ≡ w → Waiting d (tickAt rest r i) ⊎ (waitedOf d w ≡ 0)
+  unfolding waitedOf ticksOf
+  left-at Idle q = inr refl
+  left-at (For e n) q =
+      ⊎-elim
+      (λ p. inl (waits-at n (decided-sound (r .settings) (situationAt r i) .waits d n (q ∙ ap (λ (f : Direction). For f n) (is-to-is d e p)))))
+      (λ p. inr (sym (no _ _ _ _ p refl)))
+      (split (isTo d (To e)))
+
+fresh-waits : (d : Direction) (s : List ℕ) → waitedOf d (freshOf s .wait) ≡ 0
+unfolding waitedOf freshOf
+fresh-waits d s = refl
+
+pub wait-or-zero : (d : Direction) (rest : Bool) (r : Regulator) (i : Input) → Linked rest r → withinOf r ≡ true
+    → Waiting d (tickAt rest r i) ⊎ (waitTo d (nextAt r i) ≡ 0)
+unfolding outOf
+wait-or-zero d rest r i k h =
+    ⊎-elim (λ o. inr (ap (λ (t : Ticked). waitTo d (t .next)) (out-is r i h o) ∙ fresh-waits d (r .settings)))
+    (λ o.
+    ⊎-elim (λ w. inl w) (λ z. inr (ap (λ (t : Ticked). waitTo d (t .next)) (live-is r i h o) ∙ ap (waitedOf d) (live-wait r i) ∙ z))
+    (left-at d rest r i k h o (decidedAt r i .wait) refl))
+    (split (isOut r (contactsAt i)))

@@ -1,7 +1,8 @@
 // One tick of the regulator, by value: the rules in the paper's order.
 ghost use mathlib.Core.Path.{_≡_};
-ghost use mathlib.Core.Bool.{true};
+ghost use mathlib.Core.List.{List};
 ghost use Rattle.record.specs.Limits.{withinOf};
+ghost use Rattle.regulator.specs.Lists.{listFrom, Kept};
 ghost use Rattle.regulator.specs.Ticks.{sensedOf, actedOf, ranOf, outOf, refusedOf, tickOf};
 use blocks::Blocks;
 use command::Buttons;
@@ -199,10 +200,13 @@ fn refused(r: Regulator) -> Ticked
     }
 }
 
-// One tick.
-fn tick(r: Regulator, i: Input) -> Ticked
+// One tick. What it gives is what the rules give (`each`); its next record is refused afterwards only if this one was
+// (`lasting`); and every list of ticks that it opens, each later one on the record that the last returned, keeps demand 3
+// (`lists`).
+pub fn tick(r: Regulator, i: Input) -> Ticked
     ensures each { λ t. ⌜ t ≡ tickOf r i ⌝ }
     ensures lasting { λ t. ⌜ withinOf (t .next) ≡ withinOf r ⌝ }
+    ensures lists { λ t. ⌜ ((later : List Input) → Kept r (listFrom r i t later)) ⌝ }
 {
     if record::limits::within(r) {
         let c = input::decode_contacts(i.contacts);

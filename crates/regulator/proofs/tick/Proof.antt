@@ -1,4 +1,5 @@
-use Rattle.regulator.proofs.Next.{ticked, tick-out, tick-live, tick-refused}
+use Rattle.regulator.proofs.Claim.{promised}
+use Rattle.regulator.proofs.Next.{tick-out, tick-live, tick-refused}
 use borrow.Author.Needs.{needs}
 use Rattle.regulator.proofs.tick.Statement.{statement}
 use Rattle.regulator.proofs.tick.Tie as tie
@@ -22,13 +23,13 @@ refused-requires : tie.Need-refused-requires
 refused-requires c κs = search needs
 
 returns : tie.Need-returns
-returns c = ticked _ _ (search tick-out)
+returns c = promised _ _ (search tick-out)
 
 returns-2 : tie.Need-returns-2
-returns-2 c = ticked _ _ (search tick-live)
+returns-2 c = promised _ _ (search tick-live)
 
 returns-3 : tie.Need-returns-3
-returns-3 c = ticked _ _ (search tick-refused)
+returns-3 c = promised _ _ (search tick-refused)
 
 pub tick-spec : {M : Type 1} → statement M
 tick-spec =
