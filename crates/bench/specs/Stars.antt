@@ -1,0 +1,94 @@
+-- The worked values that 01 marks with a star, as one list with one statement.
+use mathlib.Core.Path.{_≡_, refl}
+use mathlib.Core.Bool.{Bool, true, false}
+use mathlib.Core.List.{List, [], _∷_, _++_, map}
+use Prim.Native.Nat.{ℕ, _-_}
+use lib.Ieee.{ofBits}
+use lib.ListN.{set, replicate}
+use Rattle.slots.specs.Slots.{t1}
+use Rattle.measure.specs.Stars as reading-stars
+use Rattle.measure.specs.declared.Measured.{Measured}
+use Rattle.busbar.specs.Stars as voltage-stars
+use Rattle.tap.specs.Stars as tap-stars
+use Rattle.tap.specs.declared.position.Position.{Position}
+use Rattle.organ.specs.Stars as organ-stars
+use Rattle.organ.specs.Runs as organ-runs
+use Rattle.regulator.specs.Lists.{Tick, ticksFrom, output}
+use Rattle.bench.specs.Scenes.{plainSheet, lowOpen}
+use Rattle.common.specs.Choice as common-choice
+use Rattle.common.specs.Places as common-places
+use Rattle.measure.specs.Readings as measure-readings
+use Rattle.sheet.specs.Sheet as sheet-sheet
+use Rattle.sheet.specs.Table as sheet-table
+use Rattle.organ.specs.Limits as organ-limits
+use Rattle.organ.specs.Organs as organ-organs
+use Rattle.drive.specs.Follow as drive-follow
+use Rattle.drive.specs.Latches as drive-latches
+use Rattle.drive.specs.Shown as drive-shown
+use Rattle.drive.specs.Ways as drive-ways
+use Rattle.input.specs.Brought as input-brought
+use Rattle.tap.specs.Counted as tap-counted
+use Rattle.tap.specs.Positions as tap-positions
+use Rattle.tap.specs.Sliding as tap-sliding
+use Rattle.blocks.specs.Blocked as blocks-blocked
+use Rattle.busbar.specs.Deviation as busbar-deviation
+use Rattle.busbar.specs.Section as busbar-section
+use Rattle.busbar.specs.Voltage as busbar-voltage
+use Rattle.command.specs.Automatic as command-automatic
+use Rattle.command.specs.Deciding as command-deciding
+use Rattle.command.specs.Manual as command-manual
+use Rattle.record.specs.Limits as record-limits
+use Rattle.record.specs.Starting as record-starting
+use Rattle.stages.specs.Accounting as stages-accounting
+use Rattle.stages.specs.Assessing as stages-assessing
+use Rattle.stages.specs.Commanding as stages-commanding
+use Rattle.stages.specs.Observing as stages-observing
+use Rattle.stages.specs.Protecting as stages-protecting
+use Rattle.stages.specs.Showing as stages-showing
+use Rattle.stages.specs.Supervising as stages-supervising
+use Rattle.regulator.specs.Ticks as regulator-ticks
+
+-- readings; the voltage and its band; the tap; the organs; and, for a T1, the tick of a low voltage from the fresh record on which raise is on
+pub data Star : Type 0 where
+  reading : reading-stars.Star → Star
+  voltage : voltage-stars.Star → Star
+  tap : tap-stars.Star → Star
+  organ : organ-stars.Star → Star
+  raising : ℕ → ℕ → Star
+
+pub data Shown : Type 0 where
+  reading : Measured → Shown
+  voltage : voltage-stars.Shown → Shown
+  tap : Position → Shown
+  organ : Bool → Shown
+  raising : List ℕ → Shown
+
+abbrev pub stars : List Star
+stars =
+    map Star.reading reading-stars.stars
+    ++ map Star.voltage voltage-stars.stars
+    ++ map Star.tap tap-stars.stars
+    ++ map Star.organ organ-stars.stars
+    ++ (Star.raising 20 20 ∷ [])
+
+abbrev pub expected : Star → Shown
+expected (Star.reading s) = Shown.reading (reading-stars.expected s)
+expected (Star.voltage s) = Shown.voltage (voltage-stars.expected s)
+expected (Star.tap s) = Shown.tap (tap-stars.expected s)
+expected (Star.organ s) = Shown.organ (organ-stars.expected s)
+expected (Star.raising d n) = Shown.raising (replicate (n - 1) 0 ++ (1 ∷ []))
+
+-- raise, output 0, on each of the ticks of a low voltage from the fresh record
+abbrev pub raises : ℕ → ℕ → List ℕ
+raises d n = map (λ (t : Tick). output 0 (t .gave)) (ticksFrom true (record-starting.freshOf (set plainSheet t1 d)) (replicate n lowOpen))
+
+abbrev pub found : Star → Shown
+found (Star.reading s) = Shown.reading (reading-stars.found s)
+found (Star.voltage s) = Shown.voltage (voltage-stars.found s)
+found (Star.tap s) = Shown.tap (tap-stars.found s)
+found (Star.organ s) = Shown.organ (organ-stars.found s)
+found (Star.raising d n) = Shown.raising (raises d n)
+
+pub stars-are : map found stars ≡ map expected stars
+unfolding ofBits organ-runs.runOf common-choice.choose common-places.zip measure-readings.goodOf measure-readings.heldOf measure-readings.measuredOf sheet-sheet.firstFrom sheet-sheet.takenIn sheet-sheet.firstOutOfRange sheet-sheet.judgeOf sheet-sheet.passesOf sheet-table.rowIn sheet-table.rowOf sheet-table.moduleFactor sheet-table.factorOf sheet-table.lowOf sheet-table.highOf sheet-table.stepOf sheet-table.takenOf organ-limits.organWithin organ-limits.every organ-limits.organsWithin organ-organs.organOf organ-organs.tripOf drive-follow.ownOf drive-follow.restOf drive-follow.askedOf drive-follow.movingOf drive-follow.supervisedOf drive-follow.followOf drive-follow.withinOf drive-latches.resetOf drive-latches.laterOf drive-latches.ageOf drive-latches.latchedOf drive-shown.onOf drive-ways.newerOf input-brought.readingsOf tap-counted.upOf tap-counted.downOf tap-counted.stepOf tap-counted.movedOf tap-counted.countedOf tap-positions.rangedOf tap-positions.bcdOf tap-positions.positionOf tap-sliding.standsIn tap-sliding.slidingOf blocks-blocked.raiseEndOf blocks-blocked.lowerEndOf blocks-blocked.organsAutomaticOf blocks-blocked.anyTripOf blocks-blocked.tapLostOf blocks-blocked.blocksOf busbar-deviation.supplyOf busbar-deviation.lowOf busbar-deviation.highOf busbar-deviation.bandOf busbar-deviation.levelOf busbar-deviation.farAbove busbar-section.sectionOf busbar-voltage.goodOf busbar-voltage.both busbar-voltage.currentOf busbar-voltage.moduleOf busbar-voltage.dropOf busbar-voltage.voltageDrop busbar-voltage.voltageOf command-automatic.ticksOf command-automatic.waitedOf command-automatic.delayOf command-automatic.waitOnOf command-automatic.towardOf command-automatic.sidedOf command-automatic.keptOf command-automatic.repeatOf command-deciding.decidedOf command-manual.pressedOf command-manual.manualOf record-limits.ticksOf record-limits.delaysOf record-limits.motionWithin record-limits.countsWithin record-limits.withinOf record-starting.freshOf stages-accounting.oneMoreOf stages-accounting.operationsOf stages-accounting.accountedOf stages-assessing.uOf stages-assessing.assessedOf stages-commanding.sideOf stages-commanding.blockedOf stages-commanding.askOf stages-commanding.situationOf stages-commanding.decisionOf stages-commanding.regulatedOf stages-observing.observedOf stages-protecting.amountOf stages-protecting.organInputOf stages-protecting.organInputsOf stages-protecting.protectedOf stages-showing.countedOf stages-showing.signalsOf stages-showing.fieldsOf stages-showing.outputsOf stages-supervising.contactOf stages-supervising.clearedOf stages-supervising.followedOf stages-supervising.supervisedOf regulator-ticks.observedIn regulator-ticks.protectedIn regulator-ticks.assessedIn regulator-ticks.sensedOf regulator-ticks.supervisedIn regulator-ticks.blockedIn regulator-ticks.regulatedIn regulator-ticks.accountedIn regulator-ticks.actedOf regulator-ticks.nextOf regulator-ticks.endOf regulator-ticks.ranOf regulator-ticks.isOut regulator-ticks.outOf regulator-ticks.refusedOf regulator-ticks.tickOf
+stars-are = refl
