@@ -2,8 +2,11 @@
 
 use std::io::{self, Write};
 
+use crate::input::{Contacts, Input};
 use crate::reading::{thousandths, Reading};
+use crate::record::Record;
 use crate::sheet::{check, slot};
+use crate::tap;
 
 /// A sheet that is taken, and that the worked values start from.
 #[rustfmt::skip]
@@ -49,7 +52,7 @@ const AGAINST_200: [u32; 18] = [
 const AGAINST_40: [u32; 3] = [0x4220_0000, 0x4220_0001, 0x421F_FFFF];
 
 /// Numbers tried in every slot.
-const TRIED: [u32; 41] = [
+const TRIED: [u32; 46] = [
     0,
     1,
     2,
@@ -91,6 +94,11 @@ const TRIED: [u32; 41] = [
     500_000,
     500_001,
     4_294_967_295,
+    49,
+    900,
+    1_900,
+    4_900,
+    79_900,
 ];
 
 /// Checksums are taken modulo this.
@@ -102,7 +110,36 @@ pub fn print(out: &mut impl Write) -> io::Result<()> {
     print_generated_readings(out)?;
     print_sheets(out)?;
     print_slots(out, "slot", &BASE)?;
-    print_slots(out, "slot5", &base_5a())
+    print_slots(out, "slot5", &base_5a())?;
+    print_bcd(out)
+}
+
+/// Each byte of BCD lines, with taps 1 to 40: tap, wrong code, range error.
+fn print_bcd(out: &mut impl Write) -> io::Result<()> {
+    let mut settings = BASE;
+    settings[slot::TAP_SOURCE] = tap::source::BCD;
+    let record = Record::fresh(settings);
+    for bcd in 0..=255u8 {
+        let read = tap::read(&record, &with_bcd(bcd));
+        let (wrong, range) = (u32::from(read.wrong_code), u32::from(read.range_error));
+        writeln!(out, "bcd {bcd} {} {wrong} {range}", read.number)?;
+    }
+    Ok(())
+}
+
+/// A tick that brings nothing but BCD lines.
+fn with_bcd(bcd: u8) -> Input {
+    Input {
+        u_ab: Reading::Invalid,
+        u_zero: Reading::Invalid,
+        u_negative: Reading::Invalid,
+        i_high: Reading::Invalid,
+        i_bus: Reading::Invalid,
+        i_coupler: Reading::Invalid,
+        contacts: Contacts(0),
+        bcd,
+        sensor: 0,
+    }
 }
 
 fn print_readings(out: &mut impl Write) -> io::Result<()> {

@@ -1,5 +1,6 @@
-// Worked values of the readings and of the setting sheet. `stdout` has what the second program, `reference/`, prints of the
+// Worked values of the readings, of the setting sheet and of the tap. `stdout` has what the second program, `reference/`, prints of the
 // same values, so a run that differs shows that one of the two programs is wrong.
+mod bcd;
 mod print;
 mod readings;
 mod sheets;
@@ -11,4 +12,5 @@ fn main() {
     sheets::print_lengths();
     sheets::print_slots(b"slot ", sheets::BASE);
     sheets::print_slots(b"slot5 ", sheets::base_5a());
+    bcd::print_codes();
 }

@@ -75,7 +75,7 @@ pub const BASE: [u32; SLOTS] = [
     0,
 ];
 
-const TRIED: [u32; 41] = [
+const TRIED: [u32; 46] = [
     0,
     1,
     2,
@@ -117,6 +117,11 @@ const TRIED: [u32; 41] = [
     500_000,
     500_001,
     4_294_967_295,
+    49,
+    900,
+    1_900,
+    4_900,
+    79_900,
 ];
 
 // The same sheet for a 5 A module.
@@ -178,7 +183,7 @@ fn add_slot(sum: u64, base: [u32; SLOTS], i: usize) -> u64
 {
     let mut total = sum;
     let mut k: usize = 0;
-    while k < 41 {
+    while k < 46 {
         total = sum::add(total, weight(base, i, TRIED[k]));
         k += 1;
     }

@@ -6,10 +6,10 @@ use Rattle.worked.proofs.sheets.add_slot.Statement.{statement}
 use Rattle.worked.proofs.sheets.add_slot.Tie as tie
 
 abbrev Inv-loop : tie.InvT-loop
-Inv-loop sum base i total₀ k₀ total k = (k ≤ 41) × (total < 1000003)
+Inv-loop sum base i total₀ k₀ total k = (k ≤ 46) × (total < 1000003)
 
 abbrev μ-loop : tie.MeasureT-loop
-μ-loop sum base i total₀ k₀ total k = 41 - k
+μ-loop sum base i total₀ k₀ total k = 46 - k
 
 loop-holds : tie.Need-loop-holds Inv-loop μ-loop
 loop-holds c = search needs
