@@ -1,0 +1,4 @@
+pub mod Bad
+pub mod Made
+pub mod Starts
+pub mod Texts

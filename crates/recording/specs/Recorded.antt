@@ -1,0 +1,52 @@
+-- One tick of a recording, by its bytes. Definitions only.
+use Prim.Native.Nat.{ℕ, zero, suc, _+_, _*_}
+use mathlib.Core.List.{List}
+use lib.Dec.{eqb, ltb, leb}
+use lib.ListN.{length, getD}
+use lib.Ieee.{Float}
+use Rattle.common.specs.Choice.{choose}
+use Rattle.measure.specs.declared.Reading.{Reading}
+use Rattle.measure.specs.declared.Reading.the-variants.{Good, Held, Invalid}
+use Rattle.input.specs.declared.Input.{Input}
+use Rattle.recording.specs.Numbers.{numberAt, floatAt}
+use Rattle.recording.specs.declared.ticks.Decoded.{Decoded}
+use Rattle.recording.specs.declared.ticks.Decoded.the-variants.{Tick, BadQuality, CutShort}
+
+-- "a quality byte (0 Good, 1 Held, 2 Invalid)"
+unfoldable pub readingOf : ℕ → Float → Reading
+readingOf q x = choose (eqb q 0) (Good x) (choose (eqb q 1) (Held x) Invalid)
+
+-- a reading: "each a quality byte and four float bytes"
+unfoldable pub readingAt : List ℕ → ℕ → Reading
+readingAt s at = readingOf (getD s at 0) (floatAt s (at + 1))
+
+-- "the six readings in the order of 01-scope.md (U_AB, 3U0, U2, I_high, I_bus, I_coupler); four contact bytes, least first; the BCD byte;
+-- the sensor byte"
+unfoldable pub inputAt : List ℕ → ℕ → Input
+inputAt s at =
+    record {
+      «u_ab» = readingAt s at;
+      u0 = readingAt s (at + 5);
+      u2 = readingAt s (at + 10);
+      «i_high» = readingAt s (at + 15);
+      «i_bus» = readingAt s (at + 20);
+      «i_coupler» = readingAt s (at + 25);
+      contacts = numberAt s (at + 30);
+      bcd = getD s (at + 34) 0;
+      sensor = getD s (at + 35) 0;
+    }
+
+-- the place of the first quality byte above 2 among those of n readings from the ith on; past them where there is none
+unfoldable pub badFrom : List ℕ → ℕ → ℕ → ℕ → ℕ
+badFrom s at zero i = 5 * i
+badFrom s at (suc n) i = choose (ltb 2 (getD s (at + 5 * i) 0)) (5 * i) (badFrom s at n (suc i))
+
+unfoldable pub badPlace : List ℕ → ℕ → ℕ
+badPlace s at = badFrom s at 6 0
+
+-- "each 36 bytes"; "a quality byte above 2, or a last tick that is cut short"
+unfoldable pub decodedOf : List ℕ → ℕ → Decoded
+decodedOf s at =
+    choose (leb (at + 36) (length s))
+    (choose (ltb (badPlace s at) 30) (BadQuality (badPlace s at) (getD s (at + badPlace s at) 0)) (Tick (inputAt s at)))
+    CutShort
