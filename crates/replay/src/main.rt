@@ -1,0 +1,20 @@
+// `replay SHEET RECORDING`, the bench program: the answer to the sheet, and then a line of outputs for each recorded tick.
+mod failing;
+mod reading;
+mod running;
+mod starting;
+
+// The longest argument that Linux hands over has one byte less.
+const LONGEST: usize = 131_072;
+
+fn main() {
+    if os::arg_count() != 3 {
+        failing::usage();
+        return;
+    }
+    let mut sheet = [0u8; LONGEST];
+    let mut recording = [0u8; LONGEST];
+    let s = os::arg(1, &mut sheet);
+    let r = os::arg(2, &mut recording);
+    starting::replay(&sheet[..s], &recording[..r]);
+}

@@ -1,0 +1,184 @@
+// The recording, streamed: some ticks are read, run and their lines written, and then the next ones.
+ghost use Prim.Native.Nat.{_≤_};
+ghost use lib.ListN.{length};
+ghost use Rattle.io.specs.Counts.{Counts};
+use crate::failing;
+use crate::reading;
+use libc::STDOUT_FILENO;
+use record::Regulator;
+use recording::lines::WIDEST;
+use recording::ticks::Decoded;
+use recording::ticks::TICK;
+use stages::showing::FIELDS;
+
+// Ticks that are read at once.
+const TICKS: usize = 64;
+
+const CHUNK: usize = TICKS * TICK;
+
+// Room for the lines of as many ticks.
+const LINES: usize = TICKS * FIELDS * WIDEST;
+
+// After one tick: the next record, the end of the lines, and whether there was a tick.
+struct Stepped {
+    next: Regulator,
+    end: usize,
+    taken: bool,
+}
+
+// After some ticks: the next record, the bytes that they took, and the end of their lines.
+struct Ran {
+    next: Regulator,
+    done: usize,
+    end: usize,
+}
+
+// The same, and whether the lines were written.
+struct Written {
+    next: Regulator,
+    done: usize,
+    written: bool,
+}
+
+// After a chunk: the next record, and whether the run is over.
+struct Advanced {
+    next: Regulator,
+    over: bool,
+}
+
+// The tick at this place, its line put at the end of the lines.
+fn step(state: Regulator, bytes: &[u8], at: usize, lines: &mut [u8], end: usize) -> Stepped
+    requires { ⌜ end ≤ length (now lines) ⌝ }
+    ensures { λ r. ⌜ r .end ≤ length (now (lines .exit)) ⌝ }
+{
+    let decoded = recording::ticks::decode_tick(bytes, at);
+    match decoded {
+        Decoded::Tick(input) => {
+            let ticked = regulator::tick(state, input);
+            let reply = ticked.reply;
+            let outputs = reply.outputs;
+            let next = ticked.next;
+            let past = recording::lines::write_line(&outputs, lines, end);
+            Stepped {
+                next: next,
+                end: past,
+                taken: true,
+            }
+        }
+        Decoded::BadQuality { place: _, byte: _ } => Stepped {
+            next: state,
+            end: end,
+            taken: false,
+        },
+        Decoded::CutShort => Stepped {
+            next: state,
+            end: end,
+            taken: false,
+        },
+    }
+}
+
+// The whole ticks of a chunk, up to one that cannot be decoded.
+fn run_ticks(state: Regulator, bytes: &[u8], lines: &mut [u8]) -> Ran
+    ensures { λ r. ⌜ Counts (r .end) (now (lines .exit)) ⌝ }
+{
+    let mut next = state;
+    let mut done: usize = 0;
+    let mut end: usize = 0;
+    while bytes.len() - done >= TICK {
+        let stepped = step(next, bytes, done, lines, end);
+        if !stepped.taken {
+            break;
+        }
+        next = stepped.next;
+        end = stepped.end;
+        done += TICK;
+    }
+    Ran {
+        next: next,
+        done: done,
+        end: end,
+    }
+}
+
+// Runs a chunk and writes its lines.
+fn run_chunk(state: Regulator, bytes: &[u8]) -> Written {
+    let mut lines = [0u8; LINES];
+    let ran = run_ticks(state, bytes, &mut lines);
+    let end = ran.end;
+    let next = ran.next;
+    let written = io::write_all(STDOUT_FILENO, &lines[..end]);
+    Written {
+        next: next,
+        done: ran.done,
+        written: written,
+    }
+}
+
+// Says what ended the run: a bad quality byte, a read that failed, or bytes that are left over. No file is as long as u64 counts.
+fn report(path: &[u8], bytes: &[u8], done: usize, offset: u64, failed: bool) {
+    let decoded = recording::ticks::decode_tick(bytes, done);
+    match decoded {
+        Decoded::Tick(_) => {}
+        Decoded::BadQuality { place, byte } => {
+            let start = std::num::wrapping_add_u64(offset, done as u64);
+            let at = std::num::wrapping_add_u64(start, place as u64);
+            failing::bad_quality(path, byte, at);
+        }
+        Decoded::CutShort => report_end(path, bytes.len(), done, offset, failed),
+    }
+}
+
+fn report_end(path: &[u8], got: usize, done: usize, offset: u64, failed: bool) {
+    if failed {
+        failing::cannot_read(path);
+        return;
+    }
+    if done < got {
+        let end = std::num::wrapping_add_u64(offset, got as u64);
+        failing::cut_short(path, end);
+    }
+}
+
+// The next chunk of the file, which starts at the offset. One that is not full is the last.
+fn run_some(fd: i32, path: &[u8], state: Regulator, offset: u64) -> Advanced {
+    let mut space = [0u8; CHUNK];
+    let filled = reading::fill(fd, &mut space);
+    let got = filled.got;
+    let ran = run_chunk(state, &space[..got]);
+    let next = ran.next;
+    if !ran.written {
+        failing::cannot_write();
+        return Advanced {
+            next: next,
+            over: true,
+        };
+    }
+    if ran.done == CHUNK {
+        return Advanced {
+            next: next,
+            over: false,
+        };
+    }
+    report(path, &space[..got], ran.done, offset, filled.failed);
+    Advanced {
+        next: next,
+        over: true,
+    }
+}
+
+// A proved loop has to end, and nothing says that a file does. So it counts its turns down, from a number that no run uses up.
+pub fn run_all(fd: i32, path: &[u8], state: Regulator) {
+    let mut next = state;
+    let mut offset: u64 = 0;
+    let mut turns = u64::MAX;
+    while turns > 0 {
+        let advanced = run_some(fd, path, next, offset);
+        if advanced.over {
+            return;
+        }
+        next = advanced.next;
+        offset = std::num::wrapping_add_u64(offset, CHUNK as u64);
+        turns -= 1;
+    }
+}
