@@ -57,7 +57,7 @@ pub fn fresh(settings: [u32; SLOTS]) -> Regulator
 }
 
 // The record of zeros that a refused sheet gives.
-fn zeros() -> Regulator
+pub fn zeros() -> Regulator
     ensures { λ r. ⌜ r ≡ zerosOf ⌝ }
 {
     let cleared = Organ {
