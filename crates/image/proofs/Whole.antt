@@ -1,0 +1,159 @@
+-- The image of a record gives it back, and an image that is taken is that of the record which it gives.
+-- Assumes nothing.
+use mathlib.Core.Path.{_≡_, refl, sym, ap, _∙_}
+use mathlib.Core.Bool.{Bool, true, false, _&&_}
+use mathlib.Core.List.{List}
+use Prim.Native.Nat.{ℕ}
+use lib.Dec.{leb, eqb}
+use lib.ListN.{length}
+use Rattle.common.specs.Choice.{choose}
+use Rattle.common.proofs.Cases.{yes, no}
+use Rattle.record.specs.declared.Regulator.{Regulator}
+use Rattle.record.specs.Starting.{zerosOf}
+use Rattle.image.specs.declared.Image.{Image}
+use Rattle.image.specs.declared.FromImage.{FromImage}
+use Rattle.image.specs.declared.DriveImage.{DriveImage}
+use Rattle.image.specs.declared.WaitImage.{WaitImage}
+use Rattle.image.specs.declared.places.OrganNumbers.{OrganNumbers}
+use Rattle.image.specs.Numbers.{bitOf, wayNumber, faultNumber, driveImage, isDrive, waitImage, isWait}
+use Rattle.image.specs.Places.{organNumbers, areMarks}
+use Rattle.image.specs.Images.{imageOf, isRecord, stateOf, takenOf, noneOf, recordOf}
+use Rattle.image.proofs.Cases.{first, second, bit-back, bit-is, bit-same, way-back, way-is, way-same, fault-back, fault-is, fault-same, drive-back, drive-is, drive-same, wait-back, wait-is, wait-same}
+use Rattle.image.proofs.Organs.{organs-back, organs-are, marks-same, counts-same}
+
+-- ---- from the record
+
+pub state-back : (r : Regulator) → stateOf (imageOf r) ≡ r
+unfolding stateOf imageOf
+state-back r =
+    rw (
+      organs-back (r .organs),
+      drive-back (r .drive),
+      fault-back (r .latch .fault),
+      wait-back (r .wait),
+      way-back (r .repeat),
+      way-back (r .last),
+      bit-back (r .buttons .raise),
+      bit-back (r .buttons .lower),
+    )
+
+pub image-is : (r : Regulator) → isRecord (imageOf r) ≡ true
+unfolding isRecord imageOf
+image-is r =
+    rw (
+      organs-are (r .organs),
+      drive-is (r .drive),
+      fault-is (r .latch .fault),
+      wait-is (r .wait),
+      way-is (r .repeat),
+      way-is (r .last),
+      bit-is (r .buttons .raise),
+      bit-is (r .buttons .lower),
+    )
+
+pub back : (r : Regulator) → recordOf (imageOf r) ≡ takenOf r
+unfolding recordOf choose
+back r = rw (image-is r, state-back r)
+
+-- ---- from the image
+module _ (m : Image) (p : isRecord m ≡ true) where
+  -- what the test says of each part
+  abbrev Parts : Type 0
+  Parts =
+      (areMarks (m .«organ_marks») ≡ true) × (isDrive (m .drive) ≡ true) × (leb (m .fault) 4 ≡ true) × (isWait (m .wait) ≡ true)
+      × (leb (m .repeat) 2 ≡ true) × (leb (m .last) 2 ≡ true) × (leb (m .«raise_button») 1 ≡ true) × (leb (m .«lower_button») 1 ≡ true)
+
+  parts : Parts
+  unfolding isRecord
+  parts =
+      let marks = areMarks (m .«organ_marks») in
+      let drive = isDrive (m .drive) in
+      let fault = leb (m .fault) 4 in
+      let wait = isWait (m .wait) in
+      let repeat = leb (m .repeat) 2 in
+      let last = leb (m .last) 2 in
+      let raise = leb (m .«raise_button») 1 in
+      let lower = leb (m .«lower_button») 1 in
+      let buttons : (raise && lower) ≡ true = second (marks && drive && fault && wait && (repeat && last)) (raise && lower) p in
+      let rest : (marks && drive && fault && wait && (repeat && last)) ≡ true = first _ (raise && lower) p in
+      let ways : (repeat && last) ≡ true = second (marks && drive && fault && wait) (repeat && last) rest in
+      let waits : (marks && drive && fault && wait) ≡ true = first _ (repeat && last) rest in
+      let faults : (marks && drive && fault) ≡ true = first _ wait waits in
+      let drives : (marks && drive) ≡ true = first _ fault faults in (
+        first marks drive drives,
+        second marks drive drives,
+        second (marks && drive) fault faults,
+        second (marks && drive && fault) wait waits,
+        first repeat last ways,
+        second repeat last ways,
+        first raise lower buttons,
+        second raise lower buttons,
+      )
+
+  pub image-same : length (m .«organ_marks») ≡ length (m .«organ_counts») → imageOf (stateOf m) ≡ m
+  unfolding imageOf stateOf
+  image-same h =
+      rw (
+        marks-same _ _ (parts .0) h,
+        counts-same (m .«organ_marks») _ h,
+        drive-same _ (parts .1),
+        fault-same _ (parts .2),
+        wait-same _ (parts .3),
+        way-same _ (parts .4),
+        way-same _ (parts .5),
+        bit-same _ (parts .6),
+        bit-same _ (parts .7),
+      )
+
+-- ---- over plain values, as the functions ask it
+
+module _ (r : Regulator) {n : OrganNumbers} {d : DriveImage} {f p q : ℕ} {w : WaitImage} where
+  pub image-made : n ≡ organNumbers (r .organs) → d ≡ driveImage (r .drive) → f ≡ faultNumber (r .latch .fault) → w ≡ waitImage (r .wait)
+      → p ≡ wayNumber (r .repeat) → q ≡ wayNumber (r .last)
+      → _≡_ {A = Image}
+      (record {
+        settings = r .settings;
+        «organ_marks» = n .marks;
+        «organ_counts» = n .counts;
+        drive = d;
+        fault = f;
+        «fault_age» = r .latch .age;
+        wait = w;
+        repeat = p;
+        last = q;
+        «counted_tap» = r .«counted_tap»;
+        operations = r .operations;
+        «raise_button» = bitOf (r .buttons .raise);
+        «lower_button» = bitOf (r .buttons .lower);
+      })
+      (imageOf r)
+  unfolding imageOf
+  image-made en ed ef ew ep eq = rw (en, ed, ef, ew, ep, eq)
+
+pub imaged : (r : Regulator) {m : Image} → m ≡ imageOf r → (m ≡ imageOf r) × (recordOf m ≡ takenOf r)
+imaged r e = (e, rw e (back r))
+
+module _ (m : Image) {b : Bool} {s : Regulator} (t : b ≡ isRecord m) where
+  pub taken-made : b ≡ true → s ≡ stateOf m → takenOf s ≡ recordOf m
+  unfolding recordOf
+  taken-made y e = yes _ _ _ _ (sym t ∙ y) (ap takenOf e)
+
+  pub none-made : b ≡ false → s ≡ zerosOf → _≡_ {A = FromImage} (record { taken = false; state = s }) (recordOf m)
+  unfolding recordOf
+  none-made n e = no _ _ _ _ (sym t ∙ n) (ap (λ (q : Regulator). record { taken = false; state = q }) e)
+
+-- an image that is taken passes the test
+taken-is : (m : Image) (b : Bool) → isRecord m ≡ b → recordOf m .taken ≡ true → b ≡ true
+unfolding recordOf choose
+taken-is m true e p = refl
+taken-is m false e p = let k : _≡_ {A = Bool} false true = rw e at p in cc
+
+pub taken-same : (m : Image) → length (m .«organ_marks») ≡ length (m .«organ_counts») → recordOf m .taken ≡ true → imageOf (recordOf m .state) ≡ m
+unfolding recordOf choose
+taken-same m h p =
+    let t : isRecord m ≡ true = taken-is m (isRecord m) refl p in
+    rw t (image-same m t h)
+
+pub recorded : (m : Image) {x : FromImage} → length (m .«organ_marks») ≡ 7 → length (m .«organ_counts») ≡ 7 → x ≡ recordOf m
+    → (x ≡ recordOf m) × (x .taken ≡ true → imageOf (x .state) ≡ m)
+recorded m h k e = (e, (λ p. rw e (taken-same m (h ∙ sym k) (rw e at p))))

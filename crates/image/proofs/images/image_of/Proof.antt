@@ -1,0 +1,47 @@
+-- `image::images::image_of` meets its contract: the numbers are what each call ensures, and the whole gives the record back.
+-- Assumes nothing.
+use Rattle.image.proofs.Whole.{image-made, imaged}
+use borrow.Author.Needs.{needs}
+use Rattle.image.proofs.images.image_of.Statement.{statement}
+use Rattle.image.proofs.images.image_of.Tie as tie
+
+organ-numbers-requires : tie.Need-organ-numbers-requires
+organ-numbers-requires c κs = search needs
+
+drive-image-requires : tie.Need-drive-image-requires
+drive-image-requires c κs = search needs
+
+fault-number-requires : tie.Need-fault-number-requires
+fault-number-requires c κs = search needs
+
+wait-image-requires : tie.Need-wait-image-requires
+wait-image-requires c κs = search needs
+
+way-number-requires : tie.Need-way-number-requires
+way-number-requires c κs = search needs
+
+way-number-requires-2 : tie.Need-way-number-requires-2
+way-number-requires-2 c κs = search needs
+
+cast-t19 : tie.Need-cast-t19
+cast-t19 c = search needs
+
+cast-t20 : tie.Need-cast-t20
+cast-t20 c = search needs
+
+returns : tie.Need-returns
+returns c = imaged _ (search image-made)
+
+pub image-of-spec : {M : Type 1} → statement M
+image-of-spec =
+    tie.close
+    (tie.spec
+    organ-numbers-requires
+    drive-image-requires
+    fault-number-requires
+    wait-image-requires
+    way-number-requires
+    way-number-requires-2
+    cast-t19
+    cast-t20
+    returns)

@@ -1,0 +1,21 @@
+-- `image::images::is_record` meets its contract, by what each call ensures. Assumes nothing.
+use Rattle.image.specs.Images.{isRecord}
+use borrow.Author.Needs.{needs}
+use Rattle.image.proofs.images.is_record.Statement.{statement}
+use Rattle.image.proofs.images.is_record.Tie as tie
+
+are-marks-requires : tie.Need-are-marks-requires
+are-marks-requires c κs = search needs
+
+is-drive-requires : tie.Need-is-drive-requires
+is-drive-requires c κs = search needs
+
+is-wait-requires : tie.Need-is-wait-requires
+is-wait-requires c κs = search needs
+
+returns : tie.Need-returns
+unfolding isRecord
+returns c = cc
+
+pub is-record-spec : {M : Type 1} → statement M
+is-record-spec = tie.close (tie.spec are-marks-requires is-drive-requires is-wait-requires returns)

@@ -1,0 +1,62 @@
+-- The image of a record, and the record of an image. Definitions only.
+use Prim.Native.Nat.{ℕ}
+use mathlib.Core.Bool.{Bool, true, false, _&&_}
+use lib.Dec.{leb, eqb}
+use Rattle.common.specs.Choice.{choose}
+use Rattle.record.specs.declared.Regulator.{Regulator}
+use Rattle.record.specs.Starting.{zerosOf}
+use Rattle.image.specs.declared.Image.{Image}
+use Rattle.image.specs.declared.FromImage.{FromImage}
+use Rattle.image.specs.Numbers.{bitOf, wayNumber, wayOf, faultNumber, faultOf, driveImage, driveOf, isDrive, waitImage, waitOf, isWait}
+use Rattle.image.specs.Places.{organNumbers, organsOf, areMarks}
+
+unfoldable pub imageOf : Regulator → Image
+imageOf r =
+    record {
+      settings = r .settings;
+      «organ_marks» = organNumbers (r .organs) .marks;
+      «organ_counts» = organNumbers (r .organs) .counts;
+      drive = driveImage (r .drive);
+      fault = faultNumber (r .latch .fault);
+      «fault_age» = r .latch .age;
+      wait = waitImage (r .wait);
+      repeat = wayNumber (r .repeat);
+      last = wayNumber (r .last);
+      «counted_tap» = r .«counted_tap»;
+      operations = r .operations;
+      «raise_button» = bitOf (r .buttons .raise);
+      «lower_button» = bitOf (r .buttons .lower);
+    }
+
+-- each number that stands for a case is one of its numbers
+unfoldable pub isRecord : Image → Bool
+isRecord m =
+    areMarks (m .«organ_marks») && isDrive (m .drive) && leb (m .fault) 4 && isWait (m .wait)
+    && (leb (m .repeat) 2 && leb (m .last) 2)
+    && (leb (m .«raise_button») 1 && leb (m .«lower_button») 1)
+
+unfoldable pub stateOf : Image → Regulator
+stateOf m =
+    record {
+      settings = m .settings;
+      organs = organsOf (m .«organ_marks») (m .«organ_counts»);
+      drive = driveOf (m .drive);
+      latch = record { fault = faultOf (m .fault); age = m .«fault_age» };
+      wait = waitOf (m .wait);
+      repeat = wayOf (m .repeat);
+      last = wayOf (m .last);
+      «counted_tap» = m .«counted_tap»;
+      operations = m .operations;
+      buttons = record { raise = eqb (m .«raise_button») 1; lower = eqb (m .«lower_button») 1 };
+    }
+
+-- the record is there
+abbrev pub takenOf : Regulator → FromImage
+takenOf r = record { taken = true; state = r }
+
+-- there is none
+abbrev pub noneOf : FromImage
+noneOf = record { taken = false; state = zerosOf }
+
+unfoldable pub recordOf : Image → FromImage
+recordOf m = choose (isRecord m) (takenOf (stateOf m)) noneOf

@@ -1,0 +1,118 @@
+// The image of a record, and the record of an image.
+ghost use mathlib.Core.Path.{_≡_};
+ghost use mathlib.Core.Bool.{true};
+ghost use Rattle.image.specs.Images.{imageOf, isRecord, stateOf, takenOf, recordOf};
+use crate::FromImage;
+use crate::Image;
+use command::Buttons;
+use drive::Latch;
+use record::Regulator;
+
+// The one image of a record. It gives the record back.
+pub fn image_of(r: Regulator) -> Image
+    ensures each { λ m. ⌜ m ≡ imageOf r ⌝ }
+    ensures back { λ m. ⌜ recordOf m ≡ takenOf r ⌝ }
+{
+    let settings = r.settings;
+    let organs = r.organs;
+    let d = r.drive;
+    let latch = r.latch;
+    let f = latch.fault;
+    let w = r.wait;
+    let again = r.repeat;
+    let before = r.last;
+    let buttons = r.buttons;
+    let numbers = crate::places::organ_numbers(organs);
+    let marks = numbers.marks;
+    let counts = numbers.counts;
+    let drive = crate::numbers::drive_image(d);
+    let fault = crate::numbers::fault_number(f);
+    let wait = crate::numbers::wait_image(w);
+    let repeat = crate::numbers::way_number(again);
+    let last = crate::numbers::way_number(before);
+    Image {
+        settings: settings,
+        organ_marks: marks,
+        organ_counts: counts,
+        drive: drive,
+        fault: fault,
+        fault_age: latch.age,
+        wait: wait,
+        repeat: repeat,
+        last: last,
+        counted_tap: r.counted_tap,
+        operations: r.operations,
+        raise_button: buttons.raise as u32,
+        lower_button: buttons.lower as u32,
+    }
+}
+
+// Whether an image is some record's.
+fn is_record(m: Image) -> bool
+    ensures { λ b. ⌜ b ≡ isRecord m ⌝ }
+{
+    let numbers = m.organ_marks;
+    let d = m.drive;
+    let w = m.wait;
+    let marks = crate::places::are_marks(numbers);
+    let drive = crate::numbers::is_drive(d);
+    let wait = crate::numbers::is_wait(w);
+    let ways = (m.repeat <= 2) & (m.last <= 2);
+    let buttons = (m.raise_button <= 1) & (m.lower_button <= 1);
+    marks & drive & (m.fault <= 4) & wait & ways & buttons
+}
+
+// The record whose image it is.
+fn state_of(m: Image) -> Regulator
+    ensures { λ r. ⌜ r ≡ stateOf m ⌝ }
+{
+    let settings = m.settings;
+    let marks = m.organ_marks;
+    let counts = m.organ_counts;
+    let d = m.drive;
+    let w = m.wait;
+    let organs = crate::places::organs_of(marks, counts);
+    let drive = crate::numbers::drive_of(d);
+    let fault = crate::numbers::fault_of(m.fault);
+    let wait = crate::numbers::wait_of(w);
+    let repeat = crate::numbers::way_of(m.repeat);
+    let last = crate::numbers::way_of(m.last);
+    Regulator {
+        settings: settings,
+        organs: organs,
+        drive: drive,
+        latch: Latch {
+            fault: fault,
+            age: m.fault_age,
+        },
+        wait: wait,
+        repeat: repeat,
+        last: last,
+        counted_tap: m.counted_tap,
+        operations: m.operations,
+        buttons: Buttons {
+            raise: m.raise_button == 1,
+            lower: m.lower_button == 1,
+        },
+    }
+}
+
+// The record of an image. An image that is taken is the image of that record.
+pub fn record_of(m: Image) -> FromImage
+    ensures each { λ r. ⌜ r ≡ recordOf m ⌝ }
+    ensures image { λ r. ⌜ (r .taken ≡ true → imageOf (r .state) ≡ m) ⌝ }
+{
+    if is_record(m) {
+        let state = state_of(m);
+        FromImage {
+            taken: true,
+            state: state,
+        }
+    } else {
+        let state = record::starting::zeros();
+        FromImage {
+            taken: false,
+            state: state,
+        }
+    }
+}

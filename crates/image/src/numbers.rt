@@ -1,0 +1,204 @@
+// The record's enums in numbers, and back; which numbers stand for a case.
+ghost use mathlib.Core.Path.{_≡_};
+ghost use Rattle.image.specs.Numbers.{
+  directionNumber,
+  directionOf,
+  wayNumber,
+  wayOf,
+  faultNumber,
+  faultOf,
+  moveNumber,
+  driveImage,
+  driveOf,
+  isDrive,
+  waitImage,
+  waitOf,
+  isWait,
+};
+use crate::DriveImage;
+use crate::WaitImage;
+use command::Wait;
+use drive::Direction;
+use drive::Drive;
+use drive::Fault;
+use drive::Way;
+
+fn direction_number(d: Direction) -> u32
+    ensures { λ n. ⌜ n ≡ directionNumber d ⌝ }
+{
+    match d {
+        Direction::Raise => 0,
+        Direction::Lower => 1,
+    }
+}
+
+fn direction_of(n: u32) -> Direction
+    ensures { λ d. ⌜ d ≡ directionOf n ⌝ }
+{
+    if n == 0 {
+        Direction::Raise
+    } else {
+        Direction::Lower
+    }
+}
+
+pub fn way_number(w: Way) -> u32
+    ensures { λ n. ⌜ n ≡ wayNumber w ⌝ }
+{
+    match w {
+        Way::Neither => 0,
+        Way::To(d) => match d {
+            Direction::Raise => 1,
+            Direction::Lower => 2,
+        },
+    }
+}
+
+pub fn way_of(n: u32) -> Way
+    ensures { λ w. ⌜ w ≡ wayOf n ⌝ }
+{
+    if n == 0 {
+        return Way::Neither;
+    }
+    if n == 1 {
+        Way::To(Direction::Raise)
+    } else {
+        Way::To(Direction::Lower)
+    }
+}
+
+pub fn fault_number(f: Fault) -> u32
+    ensures { λ n. ⌜ n ≡ faultNumber f ⌝ }
+{
+    match f {
+        Fault::NoFault => 0,
+        Fault::RunAway => 1,
+        Fault::NotStarted => 2,
+        Fault::Long => 3,
+        Fault::Fast => 4,
+    }
+}
+
+pub fn fault_of(n: u32) -> Fault
+    ensures { λ f. ⌜ f ≡ faultOf n ⌝ }
+{
+    if n == 0 {
+        return Fault::NoFault;
+    }
+    if n == 1 {
+        return Fault::RunAway;
+    }
+    if n == 2 {
+        return Fault::NotStarted;
+    }
+    if n == 3 { Fault::Long } else { Fault::Fast }
+}
+
+fn move_number(commanded: bool) -> u32
+    ensures { λ n. ⌜ n ≡ moveNumber commanded ⌝ }
+{
+    if commanded { 2 } else { 3 }
+}
+
+pub fn drive_image(d: Drive) -> DriveImage
+    ensures { λ m. ⌜ m ≡ driveImage d ⌝ }
+{
+    match d {
+        Drive::Resting => DriveImage {
+            kind: 0,
+            direction: 0,
+            ticks: 0,
+        },
+        Drive::Asked { direction, age } => {
+            let n = direction_number(direction);
+            DriveImage {
+                kind: 1,
+                direction: n,
+                ticks: age,
+            }
+        }
+        Drive::Moving {
+            direction,
+            length,
+            commanded,
+        } => {
+            let n = direction_number(direction);
+            let kind = move_number(commanded);
+            DriveImage {
+                kind: kind,
+                direction: n,
+                ticks: length,
+            }
+        }
+    }
+}
+
+pub fn drive_of(m: DriveImage) -> Drive
+    ensures { λ d. ⌜ d ≡ driveOf m ⌝ }
+{
+    let direction = direction_of(m.direction);
+    if m.kind == 0 {
+        return Drive::Resting;
+    }
+    if m.kind == 1 {
+        Drive::Asked {
+            direction: direction,
+            age: m.ticks,
+        }
+    } else {
+        Drive::Moving {
+            direction: direction,
+            length: m.ticks,
+            commanded: m.kind == 2,
+        }
+    }
+}
+
+// Whether the numbers are a drive's.
+pub fn is_drive(m: DriveImage) -> bool
+    ensures { λ b. ⌜ b ≡ isDrive m ⌝ }
+{
+    let rests = (m.direction == 0) & (m.ticks == 0);
+    (m.kind <= 3) & (m.direction <= 1) & (!(m.kind == 0) | rests)
+}
+
+pub fn wait_image(w: Wait) -> WaitImage
+    ensures { λ m. ⌜ m ≡ waitImage w ⌝ }
+{
+    match w {
+        Wait::Idle => WaitImage { side: 0, ticks: 0 },
+        Wait::For { direction, ticks } => {
+            let side = way_number(Way::To(direction));
+            WaitImage {
+                side: side,
+                ticks: ticks,
+            }
+        }
+    }
+}
+
+pub fn wait_of(m: WaitImage) -> Wait
+    ensures { λ w. ⌜ w ≡ waitOf m ⌝ }
+{
+    if m.side == 0 {
+        return Wait::Idle;
+    }
+    if m.side == 1 {
+        Wait::For {
+            direction: Direction::Raise,
+            ticks: m.ticks,
+        }
+    } else {
+        Wait::For {
+            direction: Direction::Lower,
+            ticks: m.ticks,
+        }
+    }
+}
+
+// Whether the numbers are a wait's.
+pub fn is_wait(m: WaitImage) -> bool
+    ensures { λ b. ⌜ b ≡ isWait m ⌝ }
+{
+    (m.side <= 2) & (!(m.side == 0) | (m.ticks == 0))
+}
