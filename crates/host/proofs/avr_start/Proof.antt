@@ -1,0 +1,25 @@
+-- `host::avr_start` meets its contract, by what each call ensures. Assumes nothing.
+use Rattle.host.proofs.Hosted.{started-made}
+use borrow.Author.Needs.{needs}
+use Rattle.host.proofs.avr_start.Statement.{statement}
+use Rattle.host.proofs.avr_start.Tie as tie
+
+start-requires : tie.Need-start-requires
+start-requires c κs = search needs
+
+number-of-requires : tie.Need-number-of-requires
+number-of-requires c κs = search needs
+
+slot-of-requires : tie.Need-slot-of-requires
+slot-of-requires c κs = search needs
+
+image-of-requires : tie.Need-image-of-requires
+image-of-requires c κs = search needs
+
+returns : tie.Need-returns
+returns c = search (needs, started-made)
+
+pub avr-start-spec : {M : Type 1} → statement M
+avr-start-spec =
+    tie.close
+    (tie.spec start-requires number-of-requires slot-of-requires image-of-requires returns)
