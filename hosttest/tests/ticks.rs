@@ -1,0 +1,164 @@
+//! `avr_tick` against the second program, tick by tick: the answer, all outputs and the whole next record.
+
+use hosttest::convert::{brought, image_of, record_of};
+use hosttest::hostile::{senseless, tampered};
+use hosttest::{start, tick, Image, Outputs, FIELDS};
+use reference::dice::Dice;
+use reference::input::Input;
+use reference::scene::Scene;
+use reference::tick::tick as second;
+
+const RUNS: u64 = 4_000;
+const TICKS: usize = 2_500;
+
+/// What both programs make of an image, which are to be the same.
+struct Both {
+    answer: u32,
+    next: Image,
+}
+
+/// One tick of an image by both programs.
+fn compare(image: &Image, input: &Input, dice: &mut Dice, at: &str) -> Both {
+    let mut lent = *image;
+    let mut outputs = Outputs {
+        fields: [dice.bits(); FIELDS],
+    };
+    let answer = tick(&mut lent, &brought(input, dice), &mut outputs);
+    let (refusal, fields, next) = match record_of(image) {
+        Some(record) => {
+            let ticked = second(&record, input);
+            (ticked.refusal, ticked.outputs, image_of(&ticked.next))
+        }
+        None => (4, [0; FIELDS], *image),
+    };
+    assert_eq!(answer, refusal, "{at}: answer\n{image:?}\n{input:?}");
+    assert_eq!(
+        outputs.fields, fields,
+        "{at}: outputs\n{image:?}\n{input:?}"
+    );
+    assert_eq!(lent, next, "{at}: next record\n{image:?}\n{input:?}");
+    Both { answer, next }
+}
+
+/// Whole runs from a sheet, in a simulated substation.
+#[test]
+fn runs() {
+    let mut dice = Dice::new(11);
+    let mut commands = 0u64;
+    let mut shown = [0u64; FIELDS];
+    for seed in 0..RUNS {
+        let mut scene = Scene::new(seed);
+        let started = start(&scene.record.settings);
+        assert_eq!(started.number, 0, "seed {seed}");
+        let mut image = started.image;
+        let mut outputs = Outputs {
+            fields: [0; FIELDS],
+        };
+        let mut on = 0;
+        for t in 0..TICKS {
+            let (input, ticked) = scene.next_tick();
+            let answer = tick(&mut image, &brought(&input, &mut dice), &mut outputs);
+            assert_eq!(answer, ticked.refusal, "seed {seed}, tick {t}: {input:?}");
+            assert_eq!(
+                outputs.fields, ticked.outputs,
+                "seed {seed}, tick {t}: {input:?}"
+            );
+            assert_eq!(
+                image,
+                image_of(&ticked.next),
+                "seed {seed}, tick {t}: {input:?}"
+            );
+            let command = outputs.fields[0] | outputs.fields[1];
+            commands += u64::from(command & !on);
+            on = command;
+            for (sum, &field) in shown.iter_mut().zip(&outputs.fields) {
+                *sum += u64::from(field != 0);
+            }
+        }
+    }
+    println!("{} ticks, {commands} commands", RUNS * TICKS as u64);
+    println!("ticks with each output on: {shown:?}");
+    assert!(
+        shown.iter().all(|&n| n > 0),
+        "an output never came on: {shown:?}"
+    );
+}
+
+/// Records within their limits and outside, and images of no record: one tick, and the next ones where it is accepted.
+#[test]
+fn tampered_images() {
+    let mut dice = Dice::new(13);
+    let (mut ticks, mut refused, mut none) = (0u64, 0u64, 0u64);
+    for seed in 0..2_000 {
+        let mut scene = Scene::new(1_000 + seed);
+        for t in 0..500 {
+            let (input, ticked) = scene.next_tick();
+            let mut image = tampered(&mut dice, &image_of(&ticked.next));
+            none += u64::from(record_of(&image).is_none());
+            for further in 0..3 {
+                let at = format!("seed {seed}, tick {t}, {further} further");
+                let both = compare(&image, &input, &mut dice, &at);
+                ticks += 1;
+                if both.answer == 4 {
+                    assert_eq!(both.next, image, "{at}: refused and changed");
+                    refused += 1;
+                    break;
+                }
+                image = both.next;
+            }
+        }
+    }
+    println!("{ticks} ticks, {refused} refused, {none} images of no record");
+    assert!(refused > 200_000 && none > 100_000 && ticks - refused > 200_000);
+}
+
+/// Each number of an accepted image changed by itself.
+#[test]
+fn one_number_changed() {
+    let mut dice = Dice::new(17);
+    let mut ticks = 0u64;
+    for seed in 0..40 {
+        let mut scene = Scene::new(2_000 + seed);
+        for _ in 0..300 {
+            scene.next_tick();
+        }
+        let (input, ticked) = scene.next_tick();
+        let words = image_of(&ticked.next).words();
+        for at in 0..words.len() {
+            for value in [
+                0,
+                1,
+                2,
+                3,
+                4,
+                5,
+                words[at].wrapping_add(1),
+                words[at].wrapping_sub(1),
+                u32::MAX,
+            ] {
+                let mut changed = words;
+                changed[at] = value;
+                let image = Image::from_words(&changed);
+                compare(
+                    &image,
+                    &input,
+                    &mut dice,
+                    &format!("seed {seed}, word {at} = {value}"),
+                );
+                ticks += 1;
+            }
+        }
+    }
+    println!("{ticks} ticks");
+}
+
+#[test]
+fn senseless_images() {
+    let mut dice = Dice::new(19);
+    let mut scene = Scene::new(5);
+    for i in 0..50_000 {
+        let image = senseless(&mut dice);
+        let (input, _) = scene.next_tick();
+        compare(&image, &input, &mut dice, &format!("image {i}"));
+    }
+}
