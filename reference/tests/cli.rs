@@ -48,7 +48,7 @@ fn values_have_all_their_lines() {
     let output = reference(&["values"]);
     assert!(output.status.success());
     let lines = text(&output.stdout);
-    assert_eq!(lines.lines().count(), 18 + 3 + 1 + 1 + 4 + 2 * 63);
+    assert_eq!(lines.lines().count(), 18 + 3 + 1 + 1 + 4 + 2 * 63 + 256);
     assert!(lines.starts_with("reading 200 1120416563 100099\nreading 200 1128792064 200000\n"));
     assert!(lines.contains("\nsheet 0 0\nsheet 1 0\nsheet 1 0\nsheet 1 0\nslot 0 "));
 }
