@@ -117,6 +117,16 @@ avr_started avr_start(const uint32_t *list, size_t length);
  */
 uint32_t avr_tick(avr_image *image, const avr_brought *brought, avr_outputs *outputs);
 
+/* What a tick by value gives: 0 or 4 as above, the outputs, the next image. 476 bytes, no padding. */
+typedef struct {
+    uint32_t refusal;
+    avr_outputs outputs;
+    avr_image next;
+} avr_ticked;
+
+/* The same tick with everything by value. */
+avr_ticked avr_tick_by_value(avr_image image, avr_brought brought);
+
 #ifdef __cplusplus
 }
 #define AVR_ASSERT static_assert

@@ -79,12 +79,21 @@ pub struct Started {
     pub image: Image,
 }
 
+#[repr(C)]
+#[derive(Clone, Copy, Debug, PartialEq, Eq)]
+pub struct Ticked {
+    pub refusal: u32,
+    pub outputs: Outputs,
+    pub next: Image,
+}
+
 mod library {
-    use super::{Brought, Image, Outputs, Started};
+    use super::{Brought, Image, Outputs, Started, Ticked};
 
     extern "C" {
         pub fn avr_start(list: *const u32, length: usize) -> Started;
         pub fn avr_tick(image: *mut Image, brought: *const Brought, outputs: *mut Outputs) -> u32;
+        pub fn avr_tick_by_value(image: Image, brought: Brought) -> Ticked;
     }
 }
 
@@ -98,6 +107,12 @@ pub fn start(list: &[u32]) -> Started {
 pub fn tick(image: &mut Image, brought: &Brought, outputs: &mut Outputs) -> u32 {
     // SAFETY: three references, two of them exclusive, do not overlap.
     unsafe { library::avr_tick(image, brought, outputs) }
+}
+
+/// The same with everything by value.
+pub fn tick_by_value(image: Image, brought: Brought) -> Ticked {
+    // SAFETY: plain values.
+    unsafe { library::avr_tick_by_value(image, brought) }
 }
 
 impl Image {

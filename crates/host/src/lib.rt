@@ -7,6 +7,7 @@ ghost use Rattle.host.specs.Hosting.{startedImage, imageTickOf};
 
 pub mod ticking;
 
+use crate::ticking::ImageTicked;
 use crate::ticking::Outputs;
 use image::Image;
 use image::bringing::Brought;
@@ -75,4 +76,12 @@ pub extern "C" fn avr_tick(image: &mut Image, brought: &Brought, outputs: &mut O
     *image = x.next;
     *outputs = x.outputs;
     x.refusal
+}
+
+// The same of an image by value.
+#[no_mangle]
+pub extern "C" fn avr_tick_by_value(image: Image, brought: Brought) -> ImageTicked
+    ensures { λ t. ⌜ t ≡ imageTickOf image brought ⌝ }
+{
+    ticking::image_tick(image, brought)
 }

@@ -15,6 +15,7 @@ pub struct Outputs {
 }
 
 // What a tick answers, 0 or the refusal 4, and the next image.
+#[repr(C)]
 pub struct ImageTicked {
     pub refusal: u32,
     pub outputs: Outputs,

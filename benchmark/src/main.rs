@@ -1,0 +1,101 @@
+//! Ticks per second on one recording: the proved library through its C boundary, lent and by value, and the second program.
+//! `benchmark RUNS [lent|value|second]`: all three, or one alone (for a count of instructions).
+
+use std::time::Instant;
+
+use hosttest::convert::{brought, image_of};
+use hosttest::{tick, tick_by_value, Brought, Image, Outputs};
+use reference::dice::Dice;
+use reference::input::Input;
+use reference::record::Record;
+
+const TICKS: usize = 20_000;
+
+/// A sheet and a recording with commands, moves, faults and trips in it.
+fn scene() -> (Record, Vec<Input>) {
+    let folder = std::env::temp_dir().join(format!("avr-benchmark-{}", std::process::id()));
+    std::fs::create_dir_all(&folder).expect("a temporary folder");
+    let (sheet, recording) = (folder.join("sheet"), folder.join("recording"));
+    reference::make::make(3, TICKS as u64, &sheet, &recording).expect("a made recording");
+    let list = reference::recording::sheet_from_bytes(&std::fs::read(&sheet).expect("the sheet"));
+    let bytes = std::fs::read(&recording).expect("the recording");
+    std::fs::remove_dir_all(&folder).ok();
+    let record = reference::sheet::check(&list).expect("a sheet that is taken");
+    let inputs = bytes
+        .chunks_exact(36)
+        .map(|b| reference::recording::tick_from_bytes(b.try_into().expect("36 bytes")).expect("a tick"))
+        .collect();
+    (record, inputs)
+}
+
+fn lent(start: &Image, ticks: &[Brought], runs: u32) -> u64 {
+    let mut sum = 0;
+    let mut outputs = Outputs { fields: [0; 28] };
+    for _ in 0..runs {
+        let mut image = *start;
+        for brought in ticks {
+            tick(&mut image, brought, &mut outputs);
+            sum += u64::from(outputs.fields[0] + outputs.fields[25]);
+        }
+    }
+    sum
+}
+
+fn by_value(start: &Image, ticks: &[Brought], runs: u32) -> u64 {
+    let mut sum = 0;
+    for _ in 0..runs {
+        let mut image = *start;
+        for brought in ticks {
+            let ticked = tick_by_value(image, *brought);
+            sum += u64::from(ticked.outputs.fields[0] + ticked.outputs.fields[25]);
+            image = ticked.next;
+        }
+    }
+    sum
+}
+
+fn second(start: &Record, ticks: &[Input], runs: u32) -> u64 {
+    let mut sum = 0;
+    for _ in 0..runs {
+        let mut record = start.clone();
+        for input in ticks {
+            let ticked = reference::tick::tick(&record, input);
+            sum += u64::from(ticked.outputs[0] + ticked.outputs[25]);
+            record = ticked.next;
+        }
+    }
+    sum
+}
+
+/// Nanoseconds a tick, and the sum that the ways must share.
+fn timed(runs: u32, way: impl Fn(u32) -> u64) -> (f64, u64) {
+    let from = Instant::now();
+    let sum = way(runs);
+    (from.elapsed().as_nanos() as f64 / (f64::from(runs) * TICKS as f64), sum)
+}
+
+fn main() {
+    let words: Vec<String> = std::env::args().collect();
+    let runs: u32 = words.get(1).and_then(|w| w.parse().ok()).unwrap_or(20);
+    let only = words.get(2).map(String::as_str);
+    let (record, inputs) = scene();
+    let image = image_of(&record);
+    let mut dice = Dice::new(1);
+    let ticks: Vec<Brought> = inputs.iter().map(|i| brought(i, &mut dice)).collect();
+    match only {
+        Some("lent") => println!("{}", lent(&image, &ticks, runs)),
+        Some("value") => println!("{}", by_value(&image, &ticks, runs)),
+        Some("second") => println!("{}", second(&record, &inputs, runs)),
+        _ => {
+            let (a, x) = timed(runs, |n| lent(&image, &ticks, n));
+            let (b, y) = timed(runs, |n| by_value(&image, &ticks, n));
+            let (c, z) = timed(runs, |n| second(&record, &inputs, n));
+            assert!(x == y && y == z, "the three ways differ");
+            println!("ticks: {} a way", u64::from(runs) * TICKS as u64);
+            for (name, ns) in [("proved, lent", a), ("proved, by value", b), ("second program", c)] {
+                println!("{name:18} {ns:7.1} ns a tick, {:9.0} ticks a second", 1e9 / ns);
+            }
+            println!("ratio, lent to second program: {:.2}; by value: {:.2}", a / c, b / c);
+        }
+    }
+}
