@@ -1,7 +1,7 @@
 -- What is answered, case by case, over plain values.
 -- Assumes nothing.
 use mathlib.Core.Path.{_≡_, refl, sym, _∙_, ap}
-use mathlib.Core.Bool.{Bool, true, false, not, _&&_}
+use mathlib.Core.Bool.{Bool, true, false, not, _&&_, _||_}
 use mathlib.Core.List.{List}
 use Prim.Native.Nat.{ℕ, _-_, _%_, _<_, _≤_}
 use lib.Dec.{leb, eqb}
@@ -11,6 +11,7 @@ use Rattle.common.specs.Choice.{choose}
 use Rattle.common.proofs.Cases.{yes, no}
 use Rattle.slots.specs.Slots.{slot, nPos, nR, nL}
 use Rattle.sheet.specs.Table.{lowOf, highOf, stepOf, takenOf}
+use Rattle.sheet.proofs.Tables.{step-kind, one-or-hundred}
 use Rattle.sheet.specs.Sheet.{isTaken, firstOutOfRange, wrongLength, outOfRange, endsCrossed, posOutside, judgeOf, passesOf, answerOf, zeros, sheetWith, sheetOf, replyOf, returnedOf}
 use Rattle.sheet.specs.declared.Answer.{Answer}
 use Rattle.sheet.specs.declared.Answer.the-variants.{Taken, WrongLength, OutOfRange, TapOrder}
@@ -22,9 +23,10 @@ module _ (k i x : ℕ) {l : ℕ} (p : l ≡ lowOf k i) where
   unfolding takenOf
   too-low t = rw (← p, lt-leb l x t)
 
-  pub by-step : {h d : ℕ} → h ≡ highOf k i → d ≡ stepOf i → l ≤ x → (leb x h && eqb ((x - l) % d) 0) ≡ takenOf k i x
+  pub by-step : {h d : ℕ} → h ≡ highOf k i → d ≡ stepOf i → i < 63 → l ≤ x → (leb x h && (eqb d 1 || eqb ((x - l) % 100) 0)) ≡ takenOf k i x
   unfolding takenOf
-  by-step q e t = rw (← p, ← q, ← e, le-leb l x t)
+  by-step {h} {d} q e b t =
+      ap (λ (z : Bool). leb x h && z) (one-or-hundred (x - l) d (ap (λ (z : ℕ). eqb z 1 || eqb z 100) e ∙ step-kind i b)) ∙ rw (← p, ← q, ← e, le-leb l x t)
 
 -- a sheet is made
 module _ (a : Answer) (s : List ℕ) {t : Bool} (e : t ≡ isTaken a) where

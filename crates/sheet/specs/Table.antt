@@ -1,11 +1,11 @@
 -- The paper's table of the 63 ranges, row by row, and the numbers that it takes.
-use Prim.Native.Nat.{ℕ, _+_, _-_, _*_, _%_, _≤_}
+use Prim.Native.Nat.{ℕ, zero, suc, _+_, _-_, _*_, _%_, _≤_}
 use mathlib.Core.Path.{_≡_}
 use mathlib.Core.Bool.{Bool, true, false, _&&_}
 use mathlib.Core.List.{List, [], _∷_}
 use lib.Dec.{leb, eqb}
 use Rattle.common.specs.Choice.{choose}
-use Rattle.slots.specs.Slots.{slot, moduleKind}
+use Rattle.slots.specs.Slots.{slot, slots, moduleKind}
 
 -- a row: its slots, first to last, their low, high and step, and whether low and high are times k
 pub record Row : Type 0 where
@@ -90,6 +90,20 @@ rowIn (r ∷ rs) i = choose (leb (r .first) i && leb i (r .last)) r (rowIn rs i)
 
 unfoldable pub rowOf : ℕ → Row
 rowOf i = rowIn rows i
+
+-- a part of the row of each of the n slots from i, and of all 63
+abbrev pub columnFrom : (Row → ℕ) → ℕ → ℕ → List ℕ
+columnFrom part i zero = []
+columnFrom part i (suc n) = part (rowOf i) ∷ columnFrom part (suc i) n
+
+unfoldable pub lowColumn : List ℕ
+lowColumn = columnFrom (λ r. r .low) 0 slots
+
+unfoldable pub highColumn : List ℕ
+highColumn = columnFrom (λ r. r .high) 0 slots
+
+unfoldable pub stepColumn : List ℕ
+stepColumn = columnFrom (λ r. r .step) 0 slots
 
 -- k: 5 if slot 1 is 1, the 5 A module, else 1
 unfoldable pub moduleFactor : List ℕ → ℕ

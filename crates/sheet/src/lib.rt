@@ -15,7 +15,7 @@ ghost use mathlib.Core.Path.{_≡_};
 ghost use mathlib.Core.Logic.{_↔_};
 ghost use Prim.Native.Nat.{_<_, _≤_};
 ghost use lib.ListN.{length};
-ghost use Rattle.sheet.specs.Table.{moduleFactor, factorOf, lowOf, highOf, stepOf, takenOf};
+ghost use Rattle.sheet.specs.Table.{moduleFactor, factorOf, lowColumn, highColumn, stepColumn, lowOf, highOf, stepOf, takenOf};
 ghost use Rattle.sheet.specs.Sheet.{numberOf, slotOf, isTaken, firstOutOfRange, judgeOf, passesOf, sheetWith, sheetOf, replyOf, returnedOf};
 ghost use Rattle.sheet.specs.Settings.{Settings};
 
@@ -59,38 +59,54 @@ fn factor_at(i: usize, k: u32) -> u32
     }
 }
 
-// The slot's range, the current rows scaled by k.
-fn range_at(i: usize, k: u32) -> Range
-    requires { ⌜ (i < 63) × (k ≤ 5) ⌝ }
-    ensures { λ r. ⌜ (r .low ≡ lowOf k i) × (r .high ≡ highOf k i) × (r .step ≡ stepOf i) × (1 ≤ r .step) ⌝ }
+// The slot's range, the current rows scaled by k. The tables are lent, so that a loop over the slots makes them once.
+fn range_at(
+    lows: &[u32; SLOTS],
+    highs: &[u32; SLOTS],
+    steps: &[u32; SLOTS],
+    i: usize,
+    k: u32,
+) -> Range
+    requires { ⌜ (i < 63) × (k ≤ 5) × (now lows ≡ lowColumn) × (now highs ≡ highColumn) × (now steps ≡ stepColumn) ⌝ }
+    ensures { λ r. ⌜ (r .low ≡ lowOf k i) × (r .high ≡ highOf k i) × (r .step ≡ stepOf i) ⌝ }
 {
     let factor = factor_at(i, k);
-    let low = LOW[i] * factor;
-    let high = HIGH[i] * factor;
-    let step = STEP[i];
+    let low = lows[i] * factor;
+    let high = highs[i] * factor;
+    let step = steps[i];
     Range { low, high, step }
 }
 
-// Whether the number is taken at the slot.
-fn taken_at(i: usize, k: u32, x: u32) -> bool
-    requires { ⌜ (i < 63) × (k ≤ 5) ⌝ }
+// Whether the number is taken at the slot. A step is 1 or 100: no division by a number that is not known beforehand.
+fn taken_at(
+    lows: &[u32; SLOTS],
+    highs: &[u32; SLOTS],
+    steps: &[u32; SLOTS],
+    i: usize,
+    k: u32,
+    x: u32,
+) -> bool
+    requires { ⌜ (i < 63) × (k ≤ 5) × (now lows ≡ lowColumn) × (now highs ≡ highColumn) × (now steps ≡ stepColumn) ⌝ }
     ensures { λ r. ⌜ r ≡ takenOf k i x ⌝ }
 {
-    let range = range_at(i, k);
+    let range = range_at(lows, highs, steps, i, k);
     if x < range.low {
         return false;
     }
-    (x <= range.high) & ((x - range.low) % range.step == 0)
+    (x <= range.high) & ((range.step == 1) | ((x - range.low) % 100 == 0))
 }
 
 // The lowest slot that is out of range, or 63.
 fn first_out_of_range(s: &[u32; SLOTS]) -> usize
     ensures { λ r. ⌜ r ≡ firstOutOfRange (now (s .entry)) ⌝ }
 {
+    let lows = LOW;
+    let highs = HIGH;
+    let steps = STEP;
     let k = module_factor(s);
     let mut i: usize = 0;
     while i < SLOTS {
-        if !taken_at(i, k, s[i]) {
+        if !taken_at(&lows, &highs, &steps, i, k, s[i]) {
             return i;
         }
         i += 1;

@@ -1,26 +1,30 @@
--- `sheet::first_out_of_range` meets its contract: the lowest slot out of range is the lowest from the loop's slot on.
+-- `sheet::first_out_of_range` meets its contract: the lowest slot out of range is the lowest from the loop's slot on. The constant
+-- tables are the columns of the paper's rows: antt computes them.
 -- Assumes nothing.
 use Prim.Native.Nat.{_≤_, _-_}
-use mathlib.Core.Path.{_≡_}
+use mathlib.Core.Path.{_≡_, refl}
 use borrow.Author.Needs.{needs}
 use borrow.Author.Tests.{not-true, not-false}
-use Rattle.sheet.specs.Table.{moduleFactor}
+use Rattle.common.specs.Choice.{choose}
+use Rattle.sheet.specs.Table.{rowOf, rowIn, moduleFactor, lowColumn, highColumn, stepColumn}
 use Rattle.sheet.proofs.Tables.{factor-le}
 use Rattle.sheet.proofs.First.{From, from-start, first-on, first-here, first-past}
 use Rattle.sheet.proofs.first_out_of_range.Statement.{statement}
 use Rattle.sheet.proofs.first_out_of_range.Tie as tie
 
 abbrev Inv-loop : tie.InvT-loop
-Inv-loop s k i₀ i = (i ≤ 63) × (k ≡ moduleFactor s) × From s i
+Inv-loop s lows highs steps k i₀ i =
+    (i ≤ 63) × (k ≡ moduleFactor s) × (lows ≡ lowColumn) × (highs ≡ highColumn) × (steps ≡ stepColumn) × From s i
 
 abbrev μ-loop : tie.MeasureT-loop
-μ-loop s k i₀ i = 63 - i
+μ-loop s lows highs steps k i₀ i = 63 - i
 
 module-factor-requires : tie.Need-module-factor-requires Inv-loop μ-loop
 module-factor-requires c κs = search needs
 
 loop-holds : tie.Need-loop-holds Inv-loop μ-loop
-loop-holds c = search (needs, from-start)
+unfolding lowColumn highColumn stepColumn rowOf rowIn choose
+loop-holds c = (search needs, c .module-factor .ensures, refl, refl, refl, from-start _)
 
 mul-taken-at : tie.Need-mul-taken-at Inv-loop μ-loop
 mul-taken-at c = search needs
