@@ -115,7 +115,8 @@ fn run_chunk(state: Regulator, bytes: &[u8]) -> Written {
     }
 }
 
-// Says what ended the run: a bad quality byte, a read that failed, or bytes that are left over. No file is as long as u64 counts.
+// Says what ended the run: a bad quality byte, a read that failed, or bytes that are left over. A file is shorter than 2^64
+// bytes, so no offset wraps.
 fn report(path: &[u8], bytes: &[u8], done: usize, offset: u64, failed: bool) {
     let decoded = recording::ticks::decode_tick(bytes, done);
     match decoded {
