@@ -1,0 +1,30 @@
+//! Links the proved library, libhost.a, from ../target/staticlib or from the folder in AVR_LIB.
+
+use std::env;
+use std::path::PathBuf;
+use std::process::exit;
+
+fn main() {
+    let folder = folder();
+    let archive = folder.join("libhost.a");
+    println!("cargo:rerun-if-env-changed=AVR_LIB");
+    println!("cargo:rerun-if-changed={}", archive.display());
+    if !archive.is_file() {
+        eprintln!("error: the proved library {} is missing", archive.display());
+        eprintln!("run `rt staticlib host` in the project's folder, or name the folder of libhost.a in AVR_LIB");
+        exit(1);
+    }
+    println!("cargo:rustc-link-search=native={}", folder.display());
+    println!("cargo:rustc-link-lib=static=host");
+}
+
+fn folder() -> PathBuf {
+    match env::var_os("AVR_LIB") {
+        Some(folder) => PathBuf::from(folder),
+        None => package().join("../target/staticlib"),
+    }
+}
+
+fn package() -> PathBuf {
+    PathBuf::from(env::var_os("CARGO_MANIFEST_DIR").expect("cargo names the package's folder"))
+}

@@ -1,0 +1,123 @@
+//! The cells of a scenario: readings, contacts, BCD lines, the sensor, and times.
+
+use crate::decimal;
+use crate::unit::{Sample, GOOD, HELD, INVALID};
+use crate::value::TICK_MS;
+
+/// `98.2`, `98.2 held`, `invalid`; `bits 0x7fc00000` for a float that has no number.
+pub fn reading(text: &str) -> Result<Sample, String> {
+    if text == "invalid" {
+        return Ok(Sample { quality: INVALID, value: 0.0 });
+    }
+    let (number, quality) = match text.strip_suffix("held") {
+        Some(rest) => (rest.trim(), HELD),
+        None => (text, GOOD),
+    };
+    let value = float(number).ok_or_else(|| format!("`{text}` is no reading: 98.2, 98.2 held or invalid"))?;
+    Ok(Sample { quality, value })
+}
+
+fn float(text: &str) -> Option<f32> {
+    match text.strip_prefix("bits 0x") {
+        Some(hex) => u32::from_str_radix(hex, 16).ok().map(f32::from_bits),
+        None => text.parse().ok(),
+    }
+}
+
+/// The cell of a reading; the number of an Invalid one is not kept.
+pub fn reading_text(sample: Sample) -> String {
+    match sample.quality {
+        GOOD => float_text(sample.value),
+        HELD => format!("{} held", float_text(sample.value)),
+        _ => "invalid".to_string(),
+    }
+}
+
+fn float_text(value: f32) -> String {
+    let size = value.abs();
+    match value {
+        _ if value.is_nan() => format!("bits 0x{:08x}", value.to_bits()),
+        _ if size != 0.0 && size.is_finite() && !(1e-6..1e9).contains(&size) => format!("{value:e}"),
+        _ => value.to_string(),
+    }
+}
+
+/// A contact or key.
+pub fn contact(text: &str) -> Result<bool, String> {
+    match text {
+        "1" | "on" | "closed" => Ok(true),
+        "0" | "off" | "open" => Ok(false),
+        _ => Err(format!("`{text}` is no contact: 1 or 0, on or off, closed or open")),
+    }
+}
+
+/// `24` is tap 24 on the lines, `0x1a` the lines themselves.
+pub fn bcd(text: &str) -> Result<u8, String> {
+    let wrong = || format!("`{text}` is no BCD code: a tap from 0 to 99, or lines from 0x00 to 0xff");
+    if let Some(hex) = text.strip_prefix("0x") {
+        return u8::from_str_radix(hex, 16).map_err(|_| wrong());
+    }
+    match text.parse::<u8>() {
+        Ok(tap) if tap < 100 => Ok(lines_of(tap)),
+        _ => Err(wrong()),
+    }
+}
+
+/// The BCD lines of a tap below 100.
+pub fn lines_of(tap: u8) -> u8 {
+    tap / 10 << 4 | tap % 10
+}
+
+pub fn bcd_text(lines: u8) -> String {
+    let (tens, units) = (lines >> 4, lines & 15);
+    match tens < 10 && units < 10 {
+        true => (tens * 10 + units).to_string(),
+        false => format!("0x{lines:02x}"),
+    }
+}
+
+pub fn sensor(text: &str) -> Result<u8, String> {
+    text.parse().map_err(|_| format!("`{text}` is no sensor number: 0 to 255"))
+}
+
+/// Seconds as ticks.
+pub fn seconds(text: &str) -> Result<u32, String> {
+    let ms = decimal::thousandths(text).map_err(|bad| format!("the time `{text}` {}", bad.words()))?;
+    match ms % TICK_MS {
+        0 => u32::try_from(ms / TICK_MS).map_err(|_| format!("the time `{text}` is too large")),
+        _ => Err(format!("the time `{text}` s is no whole number of ticks of 0.005 s")),
+    }
+}
+
+/// A time in ticks.
+pub fn ticks(text: &str) -> Result<u32, String> {
+    text.parse().map_err(|_| format!("the time `{text}` is no whole number of ticks"))
+}
+
+pub fn seconds_text(ticks: u32) -> String {
+    decimal::text(u64::from(ticks) * TICK_MS)
+}
+
+/// Signed volts.
+pub fn volts(text: &str) -> Result<f64, String> {
+    match text.parse::<f64>() {
+        Ok(volts) if volts.abs() <= 200.0 => Ok(volts),
+        _ => Err(format!("`{text}` is no voltage from -200 to 200 V")),
+    }
+}
+
+/// A tap of the simulated drive.
+pub fn tap(text: &str) -> Result<u8, String> {
+    match text.parse::<u8>() {
+        Ok(tap) if (1..=79).contains(&tap) => Ok(tap),
+        _ => Err(format!("`{text}` is no tap of a drive: 1 to 79")),
+    }
+}
+
+/// Taps with blanks between them, or `none`.
+pub fn taps(text: &str) -> Result<Vec<u8>, String> {
+    match text {
+        "none" => Ok(Vec::new()),
+        _ => text.split_whitespace().map(tap).collect(),
+    }
+}

@@ -1,0 +1,130 @@
+//! The columns of a scenario, by the names in its first row.
+
+use crate::cells;
+use crate::drive::{Nature, TEMPERS};
+use crate::inputs::{with, CONTACTS, READINGS, SWITCHING};
+use crate::unit::Brought;
+
+#[derive(Clone, Copy, Debug, PartialEq, Eq)]
+pub enum Column {
+    Reading(usize),
+    Contact(u32),
+    Bcd,
+    Sensor,
+    Drive(Setting),
+}
+
+/// What a column of the simulated drive sets.
+#[derive(Clone, Copy, Debug, PartialEq, Eq)]
+pub enum Setting {
+    Temper,
+    Start,
+    Run,
+    Tap,
+    Step,
+    Sliding,
+}
+
+const DRIVE: [(&str, Setting); 6] = [
+    ("drive", Setting::Temper),
+    ("drive_start", Setting::Start),
+    ("drive_run", Setting::Run),
+    ("drive_tap", Setting::Tap),
+    ("drive_step", Setting::Step),
+    ("drive_sliding", Setting::Sliding),
+];
+
+/// What stands at a row.
+#[derive(Clone, Debug, Default, PartialEq)]
+pub struct Standing {
+    pub brought: Brought,
+    pub nature: Nature,
+}
+
+pub fn find(name: &str) -> Option<Column> {
+    let reading = READINGS.iter().position(|reading| reading.name == name).map(Column::Reading);
+    let contact = || CONTACTS.iter().position(|contact| contact.name == name).map(|bit| Column::Contact(bit as u32));
+    let drive = || DRIVE.iter().find(|(known, _)| *known == name).map(|(_, setting)| Column::Drive(*setting));
+    let tap = || match name {
+        "BCD" => Some(Column::Bcd),
+        "sensor" => Some(Column::Sensor),
+        _ => None,
+    };
+    reading.or_else(contact).or_else(tap).or_else(drive)
+}
+
+pub fn name(column: Column) -> &'static str {
+    match column {
+        Column::Reading(at) => READINGS[at].name,
+        Column::Contact(bit) => CONTACTS[bit as usize].name,
+        Column::Bcd => "BCD",
+        Column::Sensor => "sensor",
+        Column::Drive(setting) => DRIVE.iter().find(|(_, known)| *known == setting).map_or("", |(name, _)| name),
+    }
+}
+
+/// The columns of a first row, after its time.
+pub fn header(cells: &[&str]) -> Result<Vec<Column>, String> {
+    let mut columns = Vec::new();
+    for cell in cells {
+        let column = find(cell).ok_or_else(|| unknown(cell))?;
+        if columns.contains(&column) {
+            return Err(format!("the column `{cell}` is there twice"));
+        }
+        columns.push(column);
+    }
+    check_drive(&columns)?;
+    Ok(columns)
+}
+
+fn unknown(name: &str) -> String {
+    let known = (0..READINGS.len()).map(Column::Reading).chain((0..CONTACTS.len() as u32).map(Column::Contact));
+    match known.map(self::name).find(|known| known.eq_ignore_ascii_case(name)) {
+        Some(near) => format!("no column is called `{name}`; {near} is one"),
+        None => format!("no column is called `{name}`"),
+    }
+}
+
+pub fn has_drive(columns: &[Column]) -> bool {
+    columns.contains(&Column::Drive(Setting::Temper))
+}
+
+fn check_drive(columns: &[Column]) -> Result<(), String> {
+    let setting = columns.iter().find(|column| matches!(column, Column::Drive(_)));
+    match (setting, has_drive(columns)) {
+        (Some(column), false) => Err(format!("the column `{}` needs a column `drive`", name(*column))),
+        (_, true) if columns.contains(&Column::Contact(SWITCHING)) => {
+            Err("`switching` and `drive` are both there: the simulated drive moves the switching contact".to_string())
+        }
+        _ => Ok(()),
+    }
+}
+
+/// Puts a cell in its place.
+pub fn put(standing: &mut Standing, column: Column, text: &str) -> Result<(), String> {
+    let brought = &mut standing.brought;
+    match column {
+        Column::Reading(at) => brought.readings[at] = cells::reading(text)?,
+        Column::Contact(bit) => brought.contacts = with(brought.contacts, bit, cells::contact(text)?),
+        Column::Bcd => brought.bcd = cells::bcd(text)?,
+        Column::Sensor => brought.sensor = cells::sensor(text)?,
+        Column::Drive(setting) => put_drive(&mut standing.nature, setting, text)?,
+    }
+    Ok(())
+}
+
+fn put_drive(nature: &mut Nature, setting: Setting, text: &str) -> Result<(), String> {
+    match setting {
+        Setting::Temper => {
+            let known = TEMPERS.iter().find(|(word, _)| *word == text);
+            let words: Vec<&str> = TEMPERS.iter().map(|(word, _)| *word).collect();
+            nature.temper = known.ok_or_else(|| format!("`{text}` is no drive: {}", words.join(", ")))?.1;
+        }
+        Setting::Start => nature.start = cells::seconds(text)?,
+        Setting::Run => nature.run = cells::seconds(text)?,
+        Setting::Tap => nature.tap = cells::tap(text)?,
+        Setting::Step => nature.step = cells::volts(text)?,
+        Setting::Sliding => nature.sliding = cells::taps(text)?,
+    }
+    Ok(())
+}

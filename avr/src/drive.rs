@@ -1,0 +1,163 @@
+//! The simulated drive of the tap changer, which answers the unit's commands, well or badly.
+
+/// Where a move goes.
+#[derive(Clone, Copy, Debug, PartialEq, Eq)]
+pub enum Way {
+    Raise,
+    Lower,
+}
+
+/// What the drive does.
+#[derive(Clone, Copy, Debug, PartialEq, Eq)]
+pub enum Temper {
+    /// Answers commands.
+    Ok,
+    /// Hears no command.
+    DoesNotStart,
+    /// A move does not end.
+    RunsOn,
+    /// Starts one move without a command where the word first stands; answers commands.
+    SelfRaise,
+    SelfLower,
+}
+
+/// The words of a scenario's column `drive`.
+pub const TEMPERS: [(&str, Temper); 5] = [
+    ("ok", Temper::Ok),
+    ("does-not-start", Temper::DoesNotStart),
+    ("runs-on", Temper::RunsOn),
+    ("self-raise", Temper::SelfRaise),
+    ("self-lower", Temper::SelfLower),
+];
+
+/// The drive as a row of the scenario sets it; times in ticks, the step of a tap in V.
+#[derive(Clone, Debug, PartialEq)]
+pub struct Nature {
+    pub temper: Temper,
+    pub start: u32,
+    pub run: u32,
+    pub tap: u8,
+    pub step: f64,
+    pub sliding: Vec<u8>,
+}
+
+impl Default for Nature {
+    /// Half a second to start, three seconds a move, 1.5 V a tap, from tap 20.
+    fn default() -> Nature {
+        Nature { temper: Temper::Ok, start: 100, run: 600, tap: 20, step: 1.5, sliding: Vec::new() }
+    }
+}
+
+#[derive(Clone, Copy, Debug, PartialEq)]
+enum State {
+    Quiet,
+    /// `alone`: goes on without a command.
+    Starting { way: Way, left: u32, alone: bool },
+    Moving { way: Way, closed: u32 },
+}
+
+/// What the drive sees before a tick: the unit's outputs of the tick before, and the reset of this one.
+#[derive(Clone, Copy, Debug, Default)]
+pub struct Seen {
+    pub command: Option<Way>,
+    pub trip: bool,
+    pub reset: bool,
+}
+
+/// The drive. Its supply goes off with the unit's supply trip, and on again with the scenario's reset.
+pub struct Drive {
+    pub tap: u8,
+    pub supply_off: bool,
+    state: State,
+    commanded: bool,
+    temper: Option<Temper>,
+}
+
+const LOWEST: u8 = 1;
+const HIGHEST: u8 = 79;
+
+impl Drive {
+    pub fn new(tap: u8) -> Drive {
+        Drive { tap, supply_off: false, state: State::Quiet, commanded: false, temper: None }
+    }
+
+    /// One tick: whether the switching contact is closed.
+    pub fn tick(&mut self, nature: &Nature, seen: Seen) -> bool {
+        self.supply(seen);
+        let fresh = seen.command.filter(|_| !self.commanded);
+        self.commanded = seen.command.is_some();
+        let alone = self.alone(nature.temper);
+        if self.supply_off {
+            self.state = State::Quiet;
+            return false;
+        }
+        if self.state == State::Quiet {
+            self.state = stir(nature, fresh, alone);
+        }
+        self.step(nature, seen.command)
+    }
+
+    fn supply(&mut self, seen: Seen) {
+        self.supply_off = !seen.reset && (self.supply_off || seen.trip);
+    }
+
+    /// The way of a move without a command, on the tick on which its word first stands.
+    fn alone(&mut self, temper: Temper) -> Option<Way> {
+        let fresh = self.temper != Some(temper);
+        self.temper = Some(temper);
+        match temper {
+            Temper::SelfRaise if fresh => Some(Way::Raise),
+            Temper::SelfLower if fresh => Some(Way::Lower),
+            _ => None,
+        }
+    }
+
+    fn step(&mut self, nature: &Nature, command: Option<Way>) -> bool {
+        match self.state {
+            State::Starting { way, left: 0, .. } => {
+                self.state = State::Moving { way, closed: 1 };
+                true
+            }
+            State::Starting { way, left, alone } => {
+                self.state = match alone || command == Some(way) {
+                    true => State::Starting { way, left: left - 1, alone },
+                    false => State::Quiet,
+                };
+                false
+            }
+            State::Moving { way, closed } => self.go_on(nature, way, closed),
+            State::Quiet => false,
+        }
+    }
+
+    fn go_on(&mut self, nature: &Nature, way: Way, closed: u32) -> bool {
+        if closed < nature.run || nature.temper == Temper::RunsOn {
+            self.state = State::Moving { way, closed: closed.saturating_add(1) };
+            return true;
+        }
+        self.arrive(nature, way);
+        false
+    }
+
+    /// The next tap; from a sliding one the drive soon goes on by itself.
+    fn arrive(&mut self, nature: &Nature, way: Way) {
+        self.tap = match way {
+            Way::Raise => (self.tap + 1).min(HIGHEST),
+            Way::Lower => (self.tap - 1).max(LOWEST),
+        };
+        self.state = match nature.sliding.contains(&self.tap) {
+            true => State::Starting { way, left: nature.start.max(1) - 1, alone: true },
+            false => State::Quiet,
+        };
+    }
+}
+
+/// What a quiet drive begins.
+fn stir(nature: &Nature, fresh: Option<Way>, alone: Option<Way>) -> State {
+    let left = nature.start.max(1) - 1;
+    match (fresh, alone) {
+        (_, Some(way)) => State::Starting { way, left: 0, alone: true },
+        (Some(way), None) if nature.temper != Temper::DoesNotStart => State::Starting { way, left, alone: false },
+        _ => State::Quiet,
+    }
+}

@@ -1,0 +1,109 @@
+//! The help of each subcommand.
+
+pub const ALL: &str = "\
+avr - try a setting sheet of the voltage regulator on the desk
+
+usage: avr sheet check FILE [-o SHEET]
+       avr sheet show SHEET
+       avr scenario write FILE -o RECORDING [--sheet FILE]
+       avr scenario show RECORDING
+       avr run --sheet FILE --scenario FILE [--table FILE] [--svg FILE]
+
+  sheet check     say whether a sheet in text is taken, and why not; write the binary SHEET
+  sheet show      turn a SHEET back into text
+  scenario write  turn a CSV scenario into a binary RECORDING
+  scenario show   turn a RECORDING back into CSV
+  run             run the unit: a table of what changed, and a picture
+
+`avr SUBCOMMAND --help` says more. Exit status: 0 done, 1 a file is bad or a sheet is refused, 2 the command line is wrong.
+On an error nothing is written.
+";
+
+pub const SHEET: &str = "\
+usage: avr sheet check FILE [-o SHEET]
+       avr sheet show SHEET
+";
+
+pub const SHEET_CHECK: &str = "\
+usage: avr sheet check FILE [-o SHEET]
+
+Says whether the unit takes the sheet in FILE, and if not, why: name, value, range and step, and the refusal's number and slot.
+With -o, --output: writes the binary SHEET, 63 numbers of 32 bits, least byte first.
+
+FILE is text: `name = value` a line, `#` begins a comment. The names are those of the manual's table of settings; one that is
+left out has its default. Values are in V, A and s, or words:
+
+    XB1 = on            # in service
+    I_nom = 5 A         # the module
+    U_supp1 = 100.5 V   # or 100.5
+    T1 = 120 s          # or 120, 120000 ms, 24000 ticks
+    XB6 = counted       # off, BCD, sensor, counted, counted-reversed
+    N1 = empty          # or a sliding tap
+    T2 = raw 12000      # the slot's number as it is in the SHEET
+
+`avr sheet show` lists all 63 names. FILE may also be a SHEET.
+";
+
+pub const SHEET_SHOW: &str = "\
+usage: avr sheet show SHEET
+
+Prints a binary SHEET as text, all 63 settings with what they mean. A SHEET that the unit refuses is told as `sheet check` does.
+";
+
+pub const SCENARIO: &str = "\
+usage: avr scenario write FILE -o RECORDING [--sheet FILE]
+       avr scenario show RECORDING
+";
+
+pub const SCENARIO_WRITE: &str = "\
+usage: avr scenario write FILE -o RECORDING [--sheet FILE]
+
+Writes the scenario in FILE as a binary RECORDING, 36 bytes a tick of 5 ms. A scenario with a simulated drive answers the unit,
+so it needs the sheet of the unit, --sheet.
+
+FILE is CSV. The first row names the columns, the first of them `seconds` or `ticks`. A row stands from its time on until the
+next row; an empty cell leaves what stood. The first row is at 0, the last one is a time and the word `end`. `#` begins a
+comment line. A column that is not there is 0.
+
+    seconds,U_AB,I_bus,breaker,automatic,drive,drive_run
+    0,100,2.5,closed,on,ok,4
+    10,97.5
+    60,97.5 held
+    70,invalid
+    90,end
+
+  readings        U_AB 3U0 U2 (V), I_high I_bus I_coupler (A): `98.2`, `98.2 held`, `invalid`
+  contacts        breaker switching supply_off oil_cold oil_low oil_high end_up end_down ext_overcurrent ext_block
+                  ext_raise_block ext_lower_block reset out automatic local U_supp2 U_supp3 U_supp4 raise lower:
+                  1 or 0, on or off, closed or open
+  BCD             the tap on the lines, `24`, or the lines themselves, `0x1a`
+  sensor          0 to 255
+  drive           the simulated drive: ok, does-not-start, runs-on (a move does not end), self-raise, self-lower (closes once
+                  by itself). It moves the switching contact, and gives BCD and sensor where these have no column.
+  drive_start     seconds from a command to the contact (0.5)
+  drive_run       seconds the contact stays closed (3)
+  drive_tap       the tap at the start (20)
+  drive_step      volts that one tap adds to U_AB, which is the voltage at drive_tap (1.5)
+  drive_sliding   taps from which the drive goes on by itself, `9 10`, or none (none)
+
+The drive's supply goes off with the unit's supply trip, and on again with `reset`.
+";
+
+pub const SCENARIO_SHOW: &str = "\
+usage: avr scenario show RECORDING
+
+Prints a binary RECORDING as a CSV scenario, a row where something changes. The number of an Invalid reading is not kept.
+";
+
+pub const RUN: &str = "\
+usage: avr run --sheet FILE (--scenario FILE | --recording FILE) [--table FILE] [--svg FILE] [--title TEXT]
+
+Runs the unit with the sheet (text or SHEET) over a scenario (CSV) or a RECORDING.
+
+  --table FILE    write the table of what changed there, and not on standard output
+  --svg FILE      write the picture there
+  --title TEXT    the picture's title; else the name of the scenario's file
+
+Tick n is told at n times 0.005 s. What a row brings at 10 s is seen first on the tick after, at 10.005 s; a delay of 20 s that
+begins there ends at 30 s. Readings of a recording are not told in the table.
+";

@@ -1,0 +1,85 @@
+//! The names of what a tick brings: six readings, and the contacts and keys by bit.
+
+/// A reading: its name and unit.
+pub struct Reading {
+    pub name: &'static str,
+    pub unit: &'static str,
+}
+
+pub const READINGS: [Reading; 6] = [
+    reading("U_AB", "V"),
+    reading("3U0", "V"),
+    reading("U2", "V"),
+    reading("I_high", "A"),
+    reading("I_bus", "A"),
+    reading("I_coupler", "A"),
+];
+
+const fn reading(name: &'static str, unit: &'static str) -> Reading {
+    Reading { name, unit }
+}
+
+/// A contact or key: its column, and what a table says when it is on and off.
+pub struct Contact {
+    pub name: &'static str,
+    pub on: &'static str,
+    pub off: &'static str,
+}
+
+pub const SWITCHING: u32 = 1;
+pub const SUPPLY_OFF: u32 = 2;
+pub const RESET: u32 = 12;
+pub const U_SUPP2: u32 = 16;
+
+/// Contacts that the unit looks at; it ignores the bits after them.
+pub const KNOWN: usize = 21;
+
+pub const CONTACTS: [Contact; 32] = [
+    contact("breaker", "breaker closed", "breaker open"),
+    contact("switching", "switching contact closed", "switching contact open"),
+    contact("supply_off", "drive supply off", "drive supply on"),
+    contact("oil_cold", "oil cold", "oil not cold"),
+    contact("oil_low", "oil level low", "oil level not low"),
+    contact("oil_high", "oil level high", "oil level not high"),
+    contact("end_up", "upper end contact closed", "upper end contact open"),
+    contact("end_down", "lower end contact closed", "lower end contact open"),
+    contact("ext_overcurrent", "external overcurrent", "external overcurrent gone"),
+    contact("ext_block", "external block", "external block gone"),
+    contact("ext_raise_block", "external raise block", "external raise block gone"),
+    contact("ext_lower_block", "external lower block", "external lower block gone"),
+    contact("reset", "reset pressed", "reset released"),
+    contact("out", "key: regulator out", "key: regulator in"),
+    contact("automatic", "key: automatic", "key: manual"),
+    contact("local", "key: local drive", "key: local drive off"),
+    contact("U_supp2", "key: U_supp2", "key: U_supp2 off"),
+    contact("U_supp3", "key: U_supp3", "key: U_supp3 off"),
+    contact("U_supp4", "key: U_supp4", "key: U_supp4 off"),
+    contact("raise", "raise button pressed", "raise button released"),
+    contact("lower", "lower button pressed", "lower button released"),
+    contact("bit21", "bit 21 set", "bit 21 clear"),
+    contact("bit22", "bit 22 set", "bit 22 clear"),
+    contact("bit23", "bit 23 set", "bit 23 clear"),
+    contact("bit24", "bit 24 set", "bit 24 clear"),
+    contact("bit25", "bit 25 set", "bit 25 clear"),
+    contact("bit26", "bit 26 set", "bit 26 clear"),
+    contact("bit27", "bit 27 set", "bit 27 clear"),
+    contact("bit28", "bit 28 set", "bit 28 clear"),
+    contact("bit29", "bit 29 set", "bit 29 clear"),
+    contact("bit30", "bit 30 set", "bit 30 clear"),
+    contact("bit31", "bit 31 set", "bit 31 clear"),
+];
+
+const fn contact(name: &'static str, on: &'static str, off: &'static str) -> Contact {
+    Contact { name, on, off }
+}
+
+pub fn is_on(contacts: u32, bit: u32) -> bool {
+    contacts >> bit & 1 == 1
+}
+
+pub fn with(contacts: u32, bit: u32, on: bool) -> u32 {
+    match on {
+        true => contacts | 1 << bit,
+        false => contacts & !(1 << bit),
+    }
+}

@@ -1,0 +1,31 @@
+//! The desk tool of the voltage regulator. The rules are the proved library's; nothing here decides for it.
+
+#![deny(unsafe_code)]
+
+pub mod cells;
+pub mod cli;
+pub mod columns;
+pub mod commands;
+pub mod decimal;
+pub mod drive;
+pub mod file;
+pub mod help;
+pub mod inputs;
+pub mod lanes;
+pub mod names;
+pub mod outputs;
+pub mod panel;
+pub mod picture;
+pub mod play;
+pub mod progress;
+pub mod recording;
+pub mod run;
+pub mod scale;
+pub mod scenario;
+pub mod sheet;
+pub mod show;
+pub mod svg;
+pub mod table;
+#[allow(unsafe_code)]
+pub mod unit;
+pub mod value;

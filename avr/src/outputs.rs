@@ -1,0 +1,89 @@
+//! The names of the 28 outputs.
+
+use crate::unit::FIELDS;
+
+pub const RAISE: usize = 0;
+pub const LOWER: usize = 1;
+pub const TAP: usize = 3;
+pub const TRIPS: usize = 6;
+pub const BLOCKS: usize = 13;
+pub const LOW: usize = 17;
+pub const HIGH: usize = 18;
+pub const FAULTS: usize = 19;
+pub const SUPPLY_TRIP: usize = 23;
+pub const OPERATIONS: usize = 25;
+pub const AUTOMATIC: usize = 27;
+
+/// Short names, for the picture.
+pub const SHORT: [&str; FIELDS] = [
+    "raise",
+    "lower",
+    "section",
+    "tap",
+    "wrong BCD code",
+    "tap range error",
+    "I_high over I_set1",
+    "I_bus over I_set2",
+    "I_bus under I_set3",
+    "U_AB over U_set1",
+    "U_AB under U_set2",
+    "3U0 over U_set3",
+    "U2 over U_set4",
+    "automatic blocked",
+    "manual blocked",
+    "raise blocked",
+    "lower blocked",
+    "low",
+    "high",
+    "run-away",
+    "not started",
+    "long move",
+    "fast move",
+    "supply trip",
+    "drive busy",
+    "operations",
+    "worn: N_max reached",
+    "automatic",
+];
+
+/// What a table says of a field that is on, and of one that is off again.
+const WORDS: [(&str, &str); FIELDS] = [
+    ("RAISE command", "raise command off"),
+    ("LOWER command", "lower command off"),
+    ("section present", "section absent"),
+    ("", "tap not known"),
+    ("wrong BCD code", "BCD code right again"),
+    ("tap range error", "tap range error gone"),
+    ("TRIP: I_high over I_set1", "trip gone: I_high over I_set1"),
+    ("TRIP: I_bus over I_set2", "trip gone: I_bus over I_set2"),
+    ("TRIP: I_bus under I_set3", "trip gone: I_bus under I_set3"),
+    ("TRIP: U_AB over U_set1", "trip gone: U_AB over U_set1"),
+    ("TRIP: U_AB under U_set2", "trip gone: U_AB under U_set2"),
+    ("TRIP: 3U0 over U_set3", "trip gone: 3U0 over U_set3"),
+    ("TRIP: U2 over U_set4", "trip gone: U2 over U_set4"),
+    ("automatic blocked", "automatic free"),
+    ("manual blocked", "manual free"),
+    ("raise blocked", "raise free"),
+    ("lower blocked", "lower free"),
+    ("voltage low", "voltage no longer low"),
+    ("voltage high", "voltage no longer high"),
+    ("FAULT: run-away", "fault cleared: run-away"),
+    ("FAULT: drive not started", "fault cleared: drive not started"),
+    ("FAULT: long move", "fault cleared: long move"),
+    ("FAULT: fast move", "fault cleared: fast move"),
+    ("SUPPLY TRIP", "supply trip off"),
+    ("drive busy", "drive at rest"),
+    ("", "operations 0"),
+    ("worn: operations have reached N_max", "operations below N_max"),
+    ("automatic mode", "manual mode"),
+];
+
+/// A field that became `now`, in words.
+pub fn words(field: usize, now: u32) -> String {
+    match (field, now) {
+        (TAP, tap) if tap > 0 => format!("tap {tap}"),
+        (OPERATIONS, operations) if operations > 0 => format!("operations {operations}"),
+        (_, 0) => WORDS[field].1.to_string(),
+        _ => WORDS[field].0.to_string(),
+    }
+}

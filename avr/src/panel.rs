@@ -1,0 +1,158 @@
+//! Panels: readings over time, with an axis on the left and names on the right.
+
+use crate::run::Signal;
+use crate::scale::{mark_text, TimeScale, ValueScale};
+use crate::svg::{short, Anchor, Area, Pen, Style, Svg, FAINT, GREY, INK};
+use crate::unit::{Sample, GOOD, INVALID};
+
+/// A reading that is drawn.
+pub struct Series<'a> {
+    pub label: String,
+    pub colour: &'static str,
+    pub dashes: &'static str,
+    pub signal: &'a Signal<Sample>,
+}
+
+/// The least distance of two names on the right.
+const LABEL_ROW: f64 = 15.0;
+
+/// The least and the greatest number of some series, of those that a unit could read.
+pub fn extent(series: &[Series]) -> Option<(f64, f64)> {
+    let samples = series.iter().flat_map(|series| series.signal.iter());
+    let known = samples.filter_map(|(_, sample)| number(sample));
+    known.fold(None, |extent, value| match extent {
+        None => Some((value, value)),
+        Some((low, high)) => Some((value.min(low), value.max(high))),
+    })
+}
+
+/// The number of a reading that is not Invalid, and neither wild nor below 0.
+fn number(sample: &Sample) -> Option<f64> {
+    let value = f64::from(sample.value);
+    (sample.quality != INVALID && (0.0..=1000.0).contains(&value)).then_some(value)
+}
+
+/// The frame and the axis.
+pub fn axis(svg: &mut Svg, time: TimeScale, scale: ValueScale, name: &str) {
+    let area = Area { x: time.left, y: scale.top, width: time.width, height: scale.height };
+    for mark in scale.marks((scale.height / 32.0).max(2.0)) {
+        let y = scale.at(mark);
+        svg.line((time.left, y), (time.right(), y), Pen { colour: FAINT, width: 0.7, dashes: "" });
+        let style = Style { size: 11.0, colour: INK, anchor: Anchor::End };
+        svg.text((time.left - 6.0, y + 4.0), &mark_text(mark), style);
+    }
+    svg.frame(area, "none", Pen { colour: GREY, width: 0.8, dashes: "" });
+    let style = Style { size: 12.0, colour: INK, anchor: Anchor::End };
+    svg.text((time.left - 46.0, scale.top + scale.height / 2.0 + 4.0), name, style);
+}
+
+/// The steps of a series: whole where Good, dashed where Held, a gap where there is no number.
+pub fn draw(svg: &mut Svg, time: TimeScale, scale: ValueScale, series: &Series) {
+    let pen = Pen { colour: series.colour, width: 1.8, dashes: series.dashes };
+    let good = steps(time, scale, series.signal, |sample| sample.quality == GOOD);
+    let held = steps(time, scale, series.signal, |sample| sample.quality != GOOD);
+    if !good.is_empty() {
+        svg.path(&good, pen);
+    }
+    if !held.is_empty() {
+        svg.path(&held, Pen { dashes: "2 3", ..pen });
+    }
+}
+
+/// The path of the samples that are wanted. Many changes in one pixel become one upright stroke.
+fn steps(time: TimeScale, scale: ValueScale, signal: &Signal<Sample>, wanted: impl Fn(&Sample) -> bool) -> String {
+    let mut path = Path::default();
+    for (at, (from, sample)) in signal.iter().enumerate() {
+        let to = signal.get(at + 1).map_or(time.ticks, |(next, _)| *next);
+        match number(sample).filter(|_| wanted(sample)) {
+            Some(value) => path.step(time.at(*from), time.at(to), scale.at(value)),
+            None => path.lift(),
+        }
+    }
+    path.end()
+}
+
+/// A path of steps, a pixel column at a time.
+#[derive(Default)]
+struct Path {
+    text: String,
+    column: Option<Column>,
+}
+
+/// What lies in one pixel column: from where to where it goes on, and the heights it touches.
+struct Column {
+    x: f64,
+    to: f64,
+    low: f64,
+    high: f64,
+    last: f64,
+}
+
+impl Path {
+    fn step(&mut self, x: f64, to: f64, y: f64) {
+        match &mut self.column {
+            Some(column) if x - column.x < 0.5 => {
+                column.to = to;
+                column.low = column.low.min(y);
+                column.high = column.high.max(y);
+                column.last = y;
+            }
+            _ => {
+                let fresh = self.column.is_none();
+                self.flush();
+                self.text.push_str(&format!("{}{} {}", if fresh { "M" } else { "L" }, short(x), short(y)));
+                self.column = Some(Column { x, to, low: y, high: y, last: y });
+            }
+        }
+    }
+
+    fn flush(&mut self) {
+        if let Some(Column { to, low, high, last, .. }) = self.column.take() {
+            if low < high {
+                self.text.push_str(&format!("V{}V{}V{}", short(low), short(high), short(last)));
+            }
+            self.text.push_str(&format!("H{}", short(to)));
+        }
+    }
+
+    fn lift(&mut self) {
+        self.flush();
+    }
+
+    fn end(mut self) -> String {
+        self.flush();
+        self.text
+    }
+}
+
+/// A name on the right of a panel, at its height.
+pub struct Label {
+    pub words: String,
+    pub colour: &'static str,
+    pub y: f64,
+}
+
+/// The names on the right, moved apart, with a stroke to their heights.
+pub fn labels(svg: &mut Svg, x: f64, scale: ValueScale, mut labels: Vec<Label>) {
+    labels.sort_by(|a, b| a.y.total_cmp(&b.y));
+    let mut places: Vec<f64> = Vec::new();
+    for label in &labels {
+        let least = places.last().map_or(scale.top, |last| last + LABEL_ROW);
+        places.push(label.y.max(least));
+    }
+    lift_into(&mut places, scale.top + scale.height);
+    for (label, place) in labels.iter().zip(places) {
+        svg.line((x + 1.0, label.y), (x + 12.0, place), Pen { colour: label.colour, width: 1.2, dashes: "" });
+        let style = Style { size: 11.0, colour: INK, anchor: Anchor::Start };
+        svg.text((x + 15.0, place + 4.0), &label.words, style);
+    }
+}
+
+/// Moves the lowest places up, so that none is below `bottom`.
+fn lift_into(places: &mut [f64], bottom: f64) {
+    let mut most = bottom;
+    for place in places.iter_mut().rev() {
+        *place = place.min(most);
+        most = *place - LABEL_ROW;
+    }
+}

@@ -1,0 +1,317 @@
+//! The picture: panels of readings, lanes of what is on, the tap, and a time axis.
+
+use crate::inputs::{is_on, READINGS, U_SUPP2};
+use crate::lanes::{self, Group, Lane, Tip};
+use crate::names::{TABLE, U_SET5};
+use crate::outputs::TAP;
+use crate::panel::{self, Label, Series};
+use crate::run::{History, Signal};
+use crate::scale::{mark_text, TimeScale, ValueScale};
+use crate::sheet;
+use crate::svg::*;
+use crate::unit::Sample;
+use crate::value;
+
+const WIDTH: f64 = 1120.0;
+const LEFT: f64 = 205.0;
+const RIGHT: f64 = 150.0;
+const TOP: f64 = 74.0;
+const VOLTAGE_HEIGHT: f64 = 190.0;
+const SMALL_HEIGHT: f64 = 84.0;
+const LANE: f64 = 22.0;
+const BAR: f64 = 13.0;
+const GAP: f64 = 14.0;
+
+/// What is drawn, and how far down it has come.
+struct Picture<'a> {
+    svg: Svg,
+    history: &'a History,
+    list: &'a [u32],
+    time: TimeScale,
+    y: f64,
+}
+
+/// The SVG of a run on the sheet `list`.
+pub fn picture(history: &History, list: &[u32], title: &str) -> String {
+    let time = TimeScale { left: LEFT, width: WIDTH - LEFT - RIGHT, ticks: history.ticks };
+    let mut picture = Picture { svg: Svg::new(), history, list, time, y: TOP };
+    let height = height(history);
+    picture.grid(height - 50.0);
+    picture.head(title);
+    picture.voltage();
+    picture.others();
+    picture.lanes();
+    picture.axis(height - 50.0);
+    let description = "Voltage against its band, commands, the switching contact, the tap, blocks, trips and faults over time.";
+    picture.svg.document(WIDTH, height, title, description)
+}
+
+/// Everything below the voltage, in the order in which it is drawn.
+fn groups(history: &History) -> Vec<Group> {
+    let groups = [lanes::moving(history), Group::new(), lanes::blocks(history), lanes::alarms(history)];
+    let optional = [lanes::notes(history), lanes::contacts(history)];
+    groups.into_iter().chain(optional.into_iter().filter(|group| !group.is_empty())).collect()
+}
+
+fn height(history: &History) -> f64 {
+    let panels = VOLTAGE_HEIGHT + GAP + small_panels(history).len() as f64 * (SMALL_HEIGHT + GAP);
+    let lanes: f64 = groups(history).iter().map(|group| group.len().max(1) as f64 * LANE + GAP).sum();
+    TOP + panels + lanes + 50.0
+}
+
+/// The readings of the panels below the voltage: other voltages and currents, where there are any.
+fn small_panels(history: &History) -> Vec<(&'static str, Vec<usize>)> {
+    let kinds = [("V", 1..3), ("A", 3..6)];
+    let used = |at: &usize| history.readings[*at].iter().any(|(_, sample)| sample.value != 0.0);
+    let panels = kinds.map(|(unit, range)| (unit, range.filter(used).collect::<Vec<usize>>()));
+    panels.into_iter().filter(|(_, used)| !used.is_empty()).collect()
+}
+
+const COLOURS: [(&str, &str); 6] =
+    [(BLACK, ""), (BLUE, ""), (VERMILLION, "7 3"), (BLUE, ""), (VERMILLION, "7 3"), (GREEN, "2 3")];
+
+impl<'a> Picture<'a> {
+    fn head(&mut self, title: &str) {
+        let large = Style { size: 18.0, colour: INK, anchor: Anchor::Start };
+        self.svg.text((20.0, 30.0), title, large);
+        let small = Style { size: 11.5, colour: GREY, anchor: Anchor::Start };
+        self.svg.text((20.0, 52.0), &self.settings(), small);
+    }
+
+    /// The settings that the picture hangs on.
+    fn settings(&self) -> String {
+        let names = ["U_supp1", "dU_set", "T1", "T2", "T3", "T4", "T5", "T6", "T7", "T8"];
+        let one = |name: &&str| {
+            let slot = crate::names::find(name).expect("a name of the table");
+            format!("{name} {}", value::text(&TABLE[slot], self.list[slot]))
+        };
+        names.iter().map(one).collect::<Vec<_>>().join("   ")
+    }
+
+    fn grid(&mut self, bottom: f64) {
+        for mark in self.time.marks() {
+            let x = self.time.at_seconds(mark);
+            self.svg.line((x, TOP), (x, bottom), Pen { colour: FAINT, width: 0.7, dashes: "" });
+        }
+    }
+
+    fn voltage(&mut self) {
+        let history = self.history;
+        let series = [self.series(0)];
+        let bands = bands(&history.contacts, history.ticks, self.list);
+        let edges = bands.iter().flat_map(|band| [band.middle - band.half, band.middle + band.half]);
+        let (low, high) = edges.fold(panel::extent(&series).unwrap_or((100.0, 100.0)), |(low, high), edge| {
+            (edge.min(low), edge.max(high))
+        });
+        let scale = ValueScale::around(low, high, self.y, VOLTAGE_HEIGHT);
+        let mut labels = self.draw_bands(&bands, scale);
+        panel::axis(&mut self.svg, self.time, scale, "voltage, V");
+        labels.extend(self.draw_u_set5(scale));
+        panel::draw(&mut self.svg, self.time, scale, &series[0]);
+        labels.extend(label_of(&series[0], scale));
+        panel::labels(&mut self.svg, self.time.right(), scale, labels);
+        self.y += VOLTAGE_HEIGHT + GAP;
+    }
+
+    fn series(&self, at: usize) -> Series<'a> {
+        let (colour, dashes) = COLOURS[at];
+        Series { label: READINGS[at].name.to_string(), colour, dashes, signal: &self.history.readings[at] }
+    }
+
+    /// The bands and their middles; the labels are of the last one.
+    fn draw_bands(&mut self, bands: &[Band], scale: ValueScale) -> Vec<Label> {
+        for band in bands {
+            let (x, to) = (self.time.at(band.from), self.time.at(band.to));
+            let (top, bottom) = (scale.at(band.middle + band.half), scale.at(band.middle - band.half));
+            self.svg.area(Area { x, y: top, width: to - x, height: bottom - top }, SKY, 0.3);
+            let y = scale.at(band.middle);
+            self.svg.line((x, y), (to, y), Pen { colour: BLUE, width: 1.2, dashes: "8 4" });
+        }
+        bands.last().map_or(Vec::new(), |band| band.labels(scale))
+    }
+
+    /// U_set5, where the voltage comes near it.
+    fn draw_u_set5(&mut self, scale: ValueScale) -> Option<Label> {
+        let volts = f64::from(self.list[U_SET5]) / 1000.0;
+        if !scale.holds(volts) {
+            return None;
+        }
+        let y = scale.at(volts);
+        self.svg.line((self.time.left, y), (self.time.right(), y), Pen { colour: VERMILLION, width: 1.2, dashes: "3 3" });
+        Some(Label { words: format!("U_set5 {} V", mark_text(volts)), colour: VERMILLION, y })
+    }
+
+    fn others(&mut self) {
+        for (unit, used) in small_panels(self.history) {
+            let series: Vec<Series> = used.iter().map(|at| self.series(*at)).collect();
+            let (low, high) = panel::extent(&series).unwrap_or((0.0, 1.0));
+            let scale = ValueScale::around(low.min(0.0), high, self.y, SMALL_HEIGHT);
+            let name = if unit == "A" { "current, A" } else { "3U0 and U2, V" };
+            panel::axis(&mut self.svg, self.time, scale, name);
+            let mut labels = Vec::new();
+            for one in &series {
+                panel::draw(&mut self.svg, self.time, scale, one);
+                labels.extend(label_of(one, scale));
+            }
+            panel::labels(&mut self.svg, self.time.right(), scale, labels);
+            self.y += SMALL_HEIGHT + GAP;
+        }
+    }
+
+    fn lanes(&mut self) {
+        for group in groups(self.history) {
+            if group.is_empty() {
+                self.tap();
+            }
+            for lane in &group {
+                self.lane(lane);
+            }
+            self.y += GAP;
+        }
+    }
+
+    fn lane_label(&mut self, label: &str) {
+        let y = self.y + LANE / 2.0;
+        self.svg.line((self.time.left, y), (self.time.right(), y), Pen { colour: FAINT, width: 1.0, dashes: "" });
+        let style = Style { size: 12.0, colour: INK, anchor: Anchor::End };
+        self.svg.text((self.time.left - 10.0, y + 4.0), label, style);
+    }
+
+    fn lane(&mut self, lane: &Lane) {
+        self.lane_label(&lane.label);
+        let bars = bars(self.time, &lane.on);
+        for (at, bar) in bars.iter().enumerate() {
+            let next = bars.get(at + 1).map_or(self.time.right() + RIGHT, |next| next.x);
+            self.bar(lane, *bar, next);
+        }
+        self.y += LANE;
+    }
+
+    /// A bar, its tip, and its time where that has room before the next bar.
+    fn bar(&mut self, lane: &Lane, bar: Bar, next: f64) {
+        let top = self.y + (LANE - BAR) / 2.0;
+        let area = Area { x: bar.x, y: top, width: bar.to - bar.x, height: BAR };
+        self.svg.frame(area, lane.colour, Pen { colour: INK, width: 0.5, dashes: "" });
+        let mut x = bar.to;
+        if lane.tip != Tip::None {
+            self.tip(lane, x + 3.0);
+            x += 13.0;
+        }
+        let words = format!("{} s", mark_text(f64::from(bar.tick) * value::TICK_MS as f64 / 1000.0));
+        if lane.timed && x + 4.0 + text_width(&words, 10.5) < next {
+            let style = Style { size: 10.5, colour: INK, anchor: Anchor::Start };
+            self.svg.text((x + 4.0, self.y + LANE / 2.0 + 4.0), &words, style);
+        }
+    }
+
+    fn tip(&mut self, lane: &Lane, x: f64) {
+        let (top, bottom) = (self.y + 6.0, self.y + LANE - 6.0);
+        let (base, point) = if lane.tip == Tip::Up { (bottom, top) } else { (top, bottom) };
+        let path = format!("M{} {}H{}L{} {}Z", short(x), short(base), short(x + 10.0), short(x + 5.0), short(point));
+        self.svg.shape(&path, lane.colour);
+    }
+
+    /// The tap: a box for each number.
+    fn tap(&mut self) {
+        self.lane_label("tap");
+        let signal = &self.history.outputs[TAP];
+        let top = self.y + (LANE - BAR) / 2.0 - 1.5;
+        for (at, (from, tap)) in signal.iter().enumerate() {
+            let to = signal.get(at + 1).map_or(self.history.ticks, |(next, _)| *next);
+            let (x, to) = (self.time.at(*from), self.time.at(to));
+            let words = if *tap == 0 { "not known".to_string() } else { tap.to_string() };
+            let area = Area { x, y: top, width: (to - x).max(1.0), height: BAR + 3.0 };
+            let fill = if at % 2 == 0 { "#FFFFFF" } else { "#ECECEC" };
+            self.svg.frame(area, fill, Pen { colour: GREY, width: 0.8, dashes: "" });
+            if text_width(&words, 11.0) + 4.0 < to - x {
+                let style = Style { size: 11.0, colour: INK, anchor: Anchor::Middle };
+                self.svg.text(((x + to) / 2.0, self.y + LANE / 2.0 + 4.0), &words, style);
+            }
+        }
+        self.y += LANE;
+    }
+
+    fn axis(&mut self, y: f64) {
+        let pen = Pen { colour: INK, width: 1.0, dashes: "" };
+        self.svg.line((self.time.left, y), (self.time.right(), y), pen);
+        let style = Style { size: 11.5, colour: INK, anchor: Anchor::Middle };
+        for mark in self.time.marks() {
+            let x = self.time.at_seconds(mark);
+            self.svg.line((x, y), (x, y + 5.0), pen);
+            self.svg.text((x, y + 18.0), &mark_text(mark), style);
+        }
+        self.svg.text((self.time.left + self.time.width / 2.0, y + 38.0), "time, s", style);
+    }
+}
+
+/// A bar in pixels, and the tick on which it begins.
+#[derive(Clone, Copy)]
+struct Bar {
+    x: f64,
+    to: f64,
+    tick: u32,
+}
+
+/// The bars of a lane, each wide enough to see; bars that touch become one.
+fn bars(time: TimeScale, on: &[(u32, u32)]) -> Vec<Bar> {
+    let mut bars: Vec<Bar> = Vec::new();
+    for (from, to) in on {
+        let x = time.at(*from);
+        let to = time.at(*to).max(x + 2.0);
+        match bars.last_mut() {
+            Some(last) if x < last.to + 0.5 => last.to = to,
+            _ => bars.push(Bar { x, to, tick: *from }),
+        }
+    }
+    bars
+}
+
+/// The band that stands for a while.
+pub struct Band {
+    pub from: u32,
+    pub to: u32,
+    pub which: usize,
+    pub middle: f64,
+    pub half: f64,
+}
+
+impl Band {
+    fn labels(&self, scale: ValueScale) -> Vec<Label> {
+        let edge = |volts: f64| Label { words: format!("band {} V", mark_text(volts)), colour: SKY, y: scale.at(volts) };
+        let words = format!("U_supp{} {} V", self.which + 1, mark_text(self.middle));
+        let middle = Label { words, colour: BLUE, y: scale.at(self.middle) };
+        vec![edge(self.middle + self.half), middle, edge(self.middle - self.half)]
+    }
+}
+
+/// The bands by the keys of U_supp. They are drawn only; what is low and high is the unit's word.
+pub fn bands(contacts: &Signal<u32>, ticks: u32, list: &[u32]) -> Vec<Band> {
+    let mut bands: Vec<Band> = Vec::new();
+    for (at, (from, now)) in contacts.iter().enumerate() {
+        let to = contacts.get(at + 1).map_or(ticks, |(next, _)| *next);
+        let which = key(*now);
+        match bands.last_mut() {
+            Some(last) if last.which == which => last.to = to,
+            _ => {
+                let (middle, half) = sheet::band(list, which);
+                bands.push(Band { from: *from, to, which, middle, half });
+            }
+        }
+    }
+    bands
+}
+
+/// Which U_supp the keys choose, from 0: the highest key that is on.
+fn key(contacts: u32) -> usize {
+    (0..3).rev().find(|key| is_on(contacts, U_SUPP2 + key)).map_or(0, |key| key as usize + 1)
+}
+
+/// The name of a series, at its last number.
+fn label_of(series: &Series, scale: ValueScale) -> Option<Label> {
+    let last: Option<&(u32, Sample)> = series.signal.last();
+    last.map(|(_, sample)| Label {
+        words: series.label.clone(),
+        colour: series.colour,
+        y: scale.at(f64::from(sample.value)),
+    })
+}

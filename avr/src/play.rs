@@ -1,0 +1,107 @@
+//! What each tick brings: a scenario, with its drive if it has one, or a recording.
+
+use crate::cells::lines_of;
+use crate::columns::Column;
+use crate::drive::{Drive, Nature, Seen, Way};
+use crate::inputs::{is_on, with, RESET, SUPPLY_OFF, SWITCHING};
+use crate::outputs::{LOWER, RAISE, SUPPLY_TRIP};
+use crate::scenario::Scenario;
+use crate::unit::{Brought, Sample, FIELDS, INVALID};
+
+/// Where ticks come from.
+pub enum Source<'a> {
+    Scenario(Player<'a>),
+    Recording(&'a [Brought]),
+}
+
+impl Source<'_> {
+    pub fn ticks(&self) -> u32 {
+        match self {
+            Source::Scenario(player) => player.scenario.ticks,
+            Source::Recording(ticks) => ticks.len() as u32,
+        }
+    }
+
+    /// What tick `tick`, from 1, brings after the outputs of the tick before.
+    pub fn bring(&mut self, tick: u32, before: &[u32; FIELDS]) -> Brought {
+        match self {
+            Source::Scenario(player) => player.bring(tick, before),
+            Source::Recording(ticks) => ticks[tick as usize - 1],
+        }
+    }
+}
+
+/// A scenario that is played.
+pub struct Player<'a> {
+    scenario: &'a Scenario,
+    row: usize,
+    drive: Option<Drive>,
+    bcd_given: bool,
+    sensor_given: bool,
+}
+
+impl<'a> Player<'a> {
+    pub fn new(scenario: &'a Scenario) -> Player<'a> {
+        let first = &scenario.rows[0].standing.nature;
+        Player {
+            scenario,
+            row: 0,
+            drive: scenario.has_drive().then(|| Drive::new(first.tap)),
+            bcd_given: scenario.columns.contains(&Column::Bcd),
+            sensor_given: scenario.columns.contains(&Column::Sensor),
+        }
+    }
+
+    fn bring(&mut self, tick: u32, before: &[u32; FIELDS]) -> Brought {
+        let rows = &self.scenario.rows;
+        while rows.get(self.row + 1).is_some_and(|next| next.after < tick) {
+            self.row += 1;
+        }
+        let standing = &rows[self.row].standing;
+        let brought = standing.brought;
+        match self.drive.as_mut() {
+            None => brought,
+            Some(drive) => {
+                let seen = seen(before, &brought);
+                let closed = drive.tick(&standing.nature, seen);
+                self.answer(brought, &standing.nature, closed)
+            }
+        }
+    }
+
+    /// What the drive adds to the row: its contacts, its tap and the tap's voltage.
+    fn answer(&self, mut brought: Brought, nature: &Nature, closed: bool) -> Brought {
+        let Some(drive) = &self.drive else { return brought };
+        brought.contacts = with(brought.contacts, SWITCHING, closed);
+        if drive.supply_off {
+            brought.contacts = with(brought.contacts, SUPPLY_OFF, true);
+        }
+        if !self.bcd_given {
+            brought.bcd = lines_of(drive.tap);
+        }
+        if !self.sensor_given {
+            brought.sensor = drive.tap;
+        }
+        let taps = f64::from(drive.tap) - f64::from(nature.tap);
+        brought.readings[0] = shifted(brought.readings[0], taps * nature.step);
+        brought
+    }
+}
+
+fn seen(before: &[u32; FIELDS], brought: &Brought) -> Seen {
+    let command = match (before[RAISE], before[LOWER]) {
+        (1, _) => Some(Way::Raise),
+        (_, 1) => Some(Way::Lower),
+        _ => None,
+    };
+    Seen { command, trip: before[SUPPLY_TRIP] == 1, reset: is_on(brought.contacts, RESET) }
+}
+
+/// The voltage with what the taps add, to the mV.
+fn shifted(sample: Sample, volts: f64) -> Sample {
+    if sample.quality == INVALID || volts == 0.0 {
+        return sample;
+    }
+    let value = ((f64::from(sample.value) + volts) * 1000.0).round() / 1000.0;
+    Sample { value: value as f32, ..sample }
+}

@@ -1,0 +1,140 @@
+//! Scenarios: rows of a CSV file, each standing until the next one.
+
+use crate::cells;
+use crate::columns::{self, Column, Setting, Standing};
+use crate::file::{Errors, File};
+
+/// The longest scenario, in ticks: a little more than a day.
+const LONGEST: u32 = 20_000_000;
+
+/// A row: what stands from the tick after `after` on.
+#[derive(Clone, Debug, PartialEq)]
+pub struct Row {
+    pub after: u32,
+    pub standing: Standing,
+}
+
+#[derive(Clone, Debug, PartialEq)]
+pub struct Scenario {
+    pub columns: Vec<Column>,
+    pub rows: Vec<Row>,
+    pub ticks: u32,
+}
+
+/// The unit of the first column.
+#[derive(Clone, Copy)]
+enum Time {
+    Seconds,
+    Ticks,
+}
+
+/// A scenario as far as it is read.
+struct Reader {
+    time: Time,
+    scenario: Scenario,
+    ended: bool,
+}
+
+pub fn read(file: &File) -> Result<Scenario, Errors> {
+    let mut lines = file.lines()?.into_iter().filter(|(_, text)| !is_idle(text));
+    let (line, text) = lines.next().ok_or_else(|| vec![file.says("no row is in it")])?;
+    let mut reader = Reader::start(&text).map_err(|words| vec![file.says_at(line, &words)])?;
+    let mut errors = Errors::new();
+    for (line, text) in lines {
+        if let Err(words) = reader.take(&text) {
+            errors.push(file.says_at(line, &words));
+        }
+    }
+    match (errors.is_empty(), reader.ended) {
+        (true, true) => Ok(reader.scenario),
+        (true, false) => Err(vec![file.says("the last row must be its end: a time and the word `end`")]),
+        _ => Err(errors),
+    }
+}
+
+/// An empty line or a comment; a row of commas is empty too.
+fn is_idle(text: &str) -> bool {
+    text.trim_start().starts_with('#') || text.chars().all(|c| c == ',' || c.is_whitespace())
+}
+
+fn split(text: &str) -> Vec<&str> {
+    text.split(',').map(|cell| cell.trim().trim_matches('"').trim()).collect()
+}
+
+impl Reader {
+    fn start(text: &str) -> Result<Reader, String> {
+        let cells = split(text);
+        let time = match cells[0] {
+            "seconds" => Time::Seconds,
+            "ticks" => Time::Ticks,
+            other => return Err(format!("the first column must be `seconds` or `ticks`, and not `{other}`")),
+        };
+        let columns = columns::header(&cells[1..])?;
+        Ok(Reader { time, scenario: Scenario { columns, rows: Vec::new(), ticks: 0 }, ended: false })
+    }
+
+    fn take(&mut self, text: &str) -> Result<(), String> {
+        if self.ended {
+            return Err("a row after the end".to_string());
+        }
+        let cells = split(text);
+        let after = self.after(cells[0])?;
+        if cells.get(1) == Some(&"end") {
+            return self.end(after, &cells[2..]);
+        }
+        let columns = &self.scenario.columns;
+        if cells.len() > columns.len() + 1 {
+            return Err(format!("{} cells, and the first row has {}", cells.len(), columns.len() + 1));
+        }
+        let row = self.row(after, &cells[1..])?;
+        self.scenario.rows.push(row);
+        Ok(())
+    }
+
+    /// The time of a row, later than the row before.
+    fn after(&self, text: &str) -> Result<u32, String> {
+        let after = match self.time {
+            Time::Seconds => cells::seconds(text)?,
+            Time::Ticks => cells::ticks(text)?,
+        };
+        match self.scenario.rows.last() {
+            None if after != 0 => Err("the first row must be at time 0".to_string()),
+            Some(row) if after <= row.after => Err(format!("the time `{text}` is not after the row before")),
+            _ if after > LONGEST => Err(format!("the time `{text}` is beyond {} s", cells::seconds_text(LONGEST))),
+            _ => Ok(after),
+        }
+    }
+
+    fn row(&self, after: u32, cells: &[&str]) -> Result<Row, String> {
+        let before = self.scenario.rows.last();
+        let mut standing = before.map(|row| row.standing.clone()).unwrap_or_default();
+        for (column, cell) in self.scenario.columns.iter().zip(cells) {
+            if cell.is_empty() {
+                continue;
+            }
+            if before.is_some() && *column == Column::Drive(Setting::Tap) {
+                return Err("`drive_tap` is the tap at the start, and may stand in the first row only".to_string());
+            }
+            columns::put(&mut standing, *column, cell).map_err(|words| format!("{}: {words}", columns::name(*column)))?;
+        }
+        Ok(Row { after, standing })
+    }
+
+    fn end(&mut self, after: u32, rest: &[&str]) -> Result<(), String> {
+        if self.scenario.rows.is_empty() {
+            return Err("the end comes before any row".to_string());
+        }
+        if rest.iter().any(|cell| !cell.is_empty()) {
+            return Err("nothing may follow the word `end`".to_string());
+        }
+        self.scenario.ticks = after;
+        self.ended = true;
+        Ok(())
+    }
+}
+
+impl Scenario {
+    pub fn has_drive(&self) -> bool {
+        columns::has_drive(&self.columns)
+    }
+}

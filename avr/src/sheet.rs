@@ -1,0 +1,195 @@
+//! Sheets: text to numbers, numbers to text, the binary file, and why a sheet is refused.
+
+use crate::file::{Errors, File};
+use crate::names::{self, ABSENT, D_U, MODULE, N_L, N_POS, N_R, TABLE};
+use crate::unit::{self, Refusal, SLOTS};
+use crate::value;
+
+/// Bytes of a whole SHEET.
+const BYTES: usize = 4 * SLOTS;
+
+/// A sheet that the library takes.
+#[derive(Clone, Debug, PartialEq)]
+pub struct Sheet {
+    pub list: Vec<u32>,
+    /// How many slots the file names; the others have their defaults.
+    pub named: usize,
+}
+
+/// A list and the lines it comes from.
+struct Draft {
+    list: Vec<u32>,
+    lines: [Option<usize>; SLOTS],
+}
+
+/// Reads a sheet, as text or as a SHEET; a file with a zero byte is no text.
+pub fn read(file: &File) -> Result<Sheet, Errors> {
+    let draft = match file.bytes.contains(&0) {
+        true => from_bytes(file)?,
+        false => from_text(file)?,
+    };
+    judge(file, &draft)?;
+    let named = draft.lines.iter().flatten().count();
+    Ok(Sheet { list: draft.list, named })
+}
+
+/// Reads a SHEET.
+pub fn read_binary(file: &File) -> Result<Sheet, Errors> {
+    let draft = from_bytes(file)?;
+    judge(file, &draft)?;
+    Ok(Sheet { list: draft.list, named: SLOTS })
+}
+
+/// A SHEET of another length is a list that is not 63 long; the library has the word.
+fn from_bytes(file: &File) -> Result<Draft, Errors> {
+    if file.bytes.len() % 4 != 0 {
+        let length = file.bytes.len();
+        return Err(vec![file.says(&format!("{length} bytes are no list of 32-bit numbers; a SHEET has {BYTES}"))]);
+    }
+    let list = file.bytes.chunks_exact(4).map(|b| u32::from_le_bytes([b[0], b[1], b[2], b[3]])).collect();
+    Ok(Draft { list, lines: [None; SLOTS] })
+}
+
+/// The SHEET of a list.
+pub fn to_bytes(list: &[u32]) -> Vec<u8> {
+    list.iter().flat_map(|number| number.to_le_bytes()).collect()
+}
+
+fn from_text(file: &File) -> Result<Draft, Errors> {
+    let mut texts: [Option<(usize, String)>; SLOTS] = std::array::from_fn(|_| None);
+    let mut errors = Errors::new();
+    for (line, text) in file.lines()? {
+        if let Err(words) = take_line(&mut texts, line, &text) {
+            errors.push(file.says_at(line, &words));
+        }
+    }
+    if errors.is_empty() && texts.iter().all(Option::is_none) {
+        return Err(vec![file.says("no setting is named in it")]);
+    }
+    let draft = draft(file, &texts, &mut errors);
+    match errors.is_empty() {
+        true => Ok(draft),
+        false => Err(errors),
+    }
+}
+
+/// Notes the value of one line: its slot, its line and its text.
+fn take_line(texts: &mut [Option<(usize, String)>; SLOTS], line: usize, text: &str) -> Result<(), String> {
+    let text = text.split('#').next().unwrap_or("").trim();
+    if text.is_empty() {
+        return Ok(());
+    }
+    let (name, value) = text.split_once('=').ok_or_else(|| format!("`{text}` is not `name = value`"))?;
+    let (name, value) = (name.trim(), value.trim());
+    let slot = names::find(name).ok_or_else(|| unknown(name))?;
+    if value.is_empty() {
+        return Err(format!("{name} has no value"));
+    }
+    if let Some((before, _)) = &texts[slot] {
+        return Err(format!("{name} is given again; line {before} gives it too"));
+    }
+    texts[slot] = Some((line, value.to_string()));
+    Ok(())
+}
+
+fn unknown(name: &str) -> String {
+    if let Some((_, why)) = ABSENT.iter().find(|(absent, _)| *absent == name) {
+        return format!("{name} is no setting of this unit: {why}");
+    }
+    match names::near(name) {
+        Some(near) => format!("no setting is called `{name}`; {near} is one"),
+        None => format!("no setting is called `{name}`"),
+    }
+}
+
+/// The numbers of the texts. The module comes first: defaults and ranges of currents hang on it.
+fn draft(file: &File, texts: &[Option<(usize, String)>; SLOTS], errors: &mut Errors) -> Draft {
+    let module = match &texts[MODULE] {
+        Some((_, text)) => value::number(&TABLE[MODULE], text).unwrap_or(0),
+        None => TABLE[MODULE].default,
+    };
+    let mut lines = [None; SLOTS];
+    let mut list = Vec::with_capacity(SLOTS);
+    for (at, slot) in TABLE.iter().enumerate() {
+        let Some((line, text)) = &texts[at] else {
+            list.push(slot.default_for(module));
+            continue;
+        };
+        lines[at] = Some(*line);
+        list.push(value::number(slot, text).unwrap_or_else(|why| {
+            let takes = value::range(slot, module);
+            errors.push(file.says_at(*line, &format!("{} = {text}: {why}; it {takes} (slot {at})", slot.name)));
+            0
+        }));
+    }
+    Draft { list, lines }
+}
+
+fn judge(file: &File, draft: &Draft) -> Result<(), Errors> {
+    let errors: Errors = refusals(&draft.list)
+        .into_iter()
+        .map(|refusal| {
+            let words = explain(&draft.list, refusal);
+            match draft.lines.get(refusal.slot as usize).copied().flatten() {
+                Some(line) => file.says_at(line, &words),
+                None => file.says(&words),
+            }
+        })
+        .collect();
+    match errors.is_empty() {
+        true => Ok(()),
+        false => Err(errors),
+    }
+}
+
+/// Each refusal of a list, all from the library: a slot that it names gets its default, and the list is tried again.
+pub fn refusals(list: &[u32]) -> Vec<Refusal> {
+    let mut list = list.to_vec();
+    let mut found: Vec<Refusal> = Vec::new();
+    while let Err(refusal) = unit::start(&list) {
+        let at = refusal.slot as usize;
+        let of_range = refusal.number == 2;
+        if of_range || !found.iter().any(|r| (N_POS..=N_L).contains(&(r.slot as usize))) {
+            found.push(refusal);
+        }
+        if !of_range {
+            break;
+        }
+        list[at] = TABLE[at].default_for(list[MODULE]);
+    }
+    found
+}
+
+/// A refusal in words: name, value, range and step, number and slot.
+pub fn explain(list: &[u32], refusal: Refusal) -> String {
+    let Refusal { number, slot } = refusal;
+    let tail = format!("(refusal {number}, slot {slot})");
+    if number == 1 {
+        return format!("the list has {} numbers, a sheet has {SLOTS} {tail}", list.len());
+    }
+    let at = slot as usize;
+    let (name, value) = (TABLE[at].name, value::text(&TABLE[at], list[at]));
+    let takes = value::range(&TABLE[at], list[MODULE]);
+    let must = match (number, at) {
+        (3, N_R) => format!(", and must be above N_L = {}", list[N_L]),
+        (3, N_POS) => format!(", and must lie from N_L = {} to N_R = {}", list[N_L], list[N_R]),
+        _ => String::new(),
+    };
+    format!("{name} = {value}: it {takes}{must} {tail}")
+}
+
+/// The sheet as text: every slot, with what it means.
+pub fn to_text(list: &[u32]) -> String {
+    let mut text = String::from("# Setting sheet. 63 settings; a line left out takes its default.\n");
+    for (at, slot) in TABLE.iter().enumerate() {
+        let setting = format!("{} = {}", slot.name, value::text(slot, list[at]));
+        text.push_str(&format!("{setting:<24}# {}\n", slot.meaning));
+    }
+    text
+}
+
+/// The middle of the band and half its width, in V, of U_supp `which` (0 to 3).
+pub fn band(list: &[u32], which: usize) -> (f64, f64) {
+    let volts = |slot: usize| f64::from(list[slot]) / 1000.0;
+    (volts(names::U_SUPP + which), volts(D_U) / 2.0)
+}
