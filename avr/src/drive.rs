@@ -64,10 +64,12 @@ pub struct Seen {
     pub reset: bool,
 }
 
-/// The drive. Its supply goes off with the unit's supply trip, and on again with the scenario's reset.
+/// The drive. Its supply goes off a moment after the unit's supply trip, and on again with the scenario's reset.
 pub struct Drive {
     pub tap: u8,
     pub supply_off: bool,
+    /// Ticks since the supply trip came.
+    tripped: Option<u32>,
     state: State,
     commanded: bool,
     temper: Option<Temper>,
@@ -76,9 +78,12 @@ pub struct Drive {
 const LOWEST: u8 = 1;
 const HIGHEST: u8 = 79;
 
+/// Ticks from the supply trip until the supply is off: 0.1 s.
+const BREAKER: u32 = 20;
+
 impl Drive {
     pub fn new(tap: u8) -> Drive {
-        Drive { tap, supply_off: false, state: State::Quiet, commanded: false, temper: None }
+        Drive { tap, supply_off: false, tripped: None, state: State::Quiet, commanded: false, temper: None }
     }
 
     /// One tick: whether the switching contact is closed.
@@ -98,7 +103,12 @@ impl Drive {
     }
 
     fn supply(&mut self, seen: Seen) {
-        self.supply_off = !seen.reset && (self.supply_off || seen.trip);
+        self.tripped = match self.tripped {
+            _ if seen.reset => None,
+            Some(ticks) => Some(ticks.saturating_add(1)),
+            None => seen.trip.then_some(1),
+        };
+        self.supply_off = self.tripped.is_some_and(|ticks| ticks >= BREAKER);
     }
 
     /// The way of a move without a command, on the tick on which its word first stands.

@@ -86,7 +86,7 @@ comment line. A column that is not there is 0.
   drive_step      volts that one tap adds to U_AB, which is the voltage at drive_tap (1.5)
   drive_sliding   taps from which the drive goes on by itself, `9 10`, or none (none)
 
-The drive's supply goes off with the unit's supply trip, and on again with `reset`.
+The drive's supply goes off 0.1 s after the unit's supply trip, which ends a move, and is on again with `reset`.
 ";
 
 pub const SCENARIO_SHOW: &str = "\

@@ -4,6 +4,7 @@
 use crate::unit::SLOTS;
 
 pub const MODULE: usize = 1;
+pub const COMPENSATION: usize = 3;
 pub const U_SUPP: usize = 19;
 pub const D_U: usize = 23;
 pub const U_SET5: usize = 32;

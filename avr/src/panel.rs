@@ -35,7 +35,7 @@ fn number(sample: &Sample) -> Option<f64> {
 /// The frame and the axis.
 pub fn axis(svg: &mut Svg, time: TimeScale, scale: ValueScale, name: &str) {
     let area = Area { x: time.left, y: scale.top, width: time.width, height: scale.height };
-    for mark in scale.marks((scale.height / 32.0).max(2.0)) {
+    for mark in scale.marks(scale.height / 26.0) {
         let y = scale.at(mark);
         svg.line((time.left, y), (time.right(), y), Pen { colour: FAINT, width: 0.7, dashes: "" });
         let style = Style { size: 11.0, colour: INK, anchor: Anchor::End };

@@ -2,7 +2,7 @@
 
 use crate::inputs::{is_on, READINGS, U_SUPP2};
 use crate::lanes::{self, Group, Lane, Tip};
-use crate::names::{TABLE, U_SET5};
+use crate::names::{COMPENSATION, TABLE, U_SET5};
 use crate::outputs::TAP;
 use crate::panel::{self, Label, Series};
 use crate::run::{History, Signal};
@@ -70,6 +70,34 @@ fn small_panels(history: &History) -> Vec<(&'static str, Vec<usize>)> {
 const COLOURS: [(&str, &str); 6] =
     [(BLACK, ""), (BLUE, ""), (VERMILLION, "7 3"), (BLUE, ""), (VERMILLION, "7 3"), (GREEN, "2 3")];
 
+/// A limit of a reading: its slot, and the slot that watches it; none for U_set5, which always counts.
+struct Limit {
+    reading: usize,
+    slot: usize,
+    watch: Option<usize>,
+}
+
+const LIMITS: [Limit; 8] = [
+    limit(0, U_SET5, None),
+    limit(3, 25, Some(6)),
+    limit(4, 26, Some(7)),
+    limit(4, 27, Some(8)),
+    limit(0, 28, Some(9)),
+    limit(0, 29, Some(10)),
+    limit(1, 30, Some(11)),
+    limit(2, 31, Some(12)),
+];
+
+const fn limit(reading: usize, slot: usize, watch: Option<usize>) -> Limit {
+    Limit { reading, slot, watch }
+}
+
+impl Limit {
+    fn is_watched(&self, list: &[u32]) -> bool {
+        self.watch.is_none_or(|slot| list[slot] == 1)
+    }
+}
+
 impl<'a> Picture<'a> {
     fn head(&mut self, title: &str) {
         let large = Style { size: 18.0, colour: INK, anchor: Anchor::Start };
@@ -80,12 +108,13 @@ impl<'a> Picture<'a> {
 
     /// The settings that the picture hangs on.
     fn settings(&self) -> String {
-        let names = ["U_supp1", "dU_set", "T1", "T2", "T3", "T4", "T5", "T6", "T7", "T8"];
+        let compensation = if self.list[COMPENSATION] == 1 { Some("U_comp") } else { None };
+        let names = ["U_supp1", "dU_set", "T1", "T2", "T3", "T4", "T5", "T6", "T7", "T8"].iter().chain(compensation.iter());
         let one = |name: &&str| {
             let slot = crate::names::find(name).expect("a name of the table");
             format!("{name} {}", value::text(&TABLE[slot], self.list[slot]))
         };
-        names.iter().map(one).collect::<Vec<_>>().join("   ")
+        names.map(one).collect::<Vec<_>>().join(" · ")
     }
 
     fn grid(&mut self, bottom: f64) {
@@ -97,7 +126,10 @@ impl<'a> Picture<'a> {
 
     fn voltage(&mut self) {
         let history = self.history;
-        let series = [self.series(0)];
+        let mut series = [self.series(0)];
+        if self.list[COMPENSATION] == 1 {
+            series[0].label = "U_AB, measured".to_string();
+        }
         let bands = bands(&history.contacts, history.ticks, self.list);
         let edges = bands.iter().flat_map(|band| [band.middle - band.half, band.middle + band.half]);
         let (low, high) = edges.fold(panel::extent(&series).unwrap_or((100.0, 100.0)), |(low, high), edge| {
@@ -106,7 +138,7 @@ impl<'a> Picture<'a> {
         let scale = ValueScale::around(low, high, self.y, VOLTAGE_HEIGHT);
         let mut labels = self.draw_bands(&bands, scale);
         panel::axis(&mut self.svg, self.time, scale, "voltage, V");
-        labels.extend(self.draw_u_set5(scale));
+        labels.extend(self.draw_limits(&[0], scale));
         panel::draw(&mut self.svg, self.time, scale, &series[0]);
         labels.extend(label_of(&series[0], scale));
         panel::labels(&mut self.svg, self.time.right(), scale, labels);
@@ -130,15 +162,23 @@ impl<'a> Picture<'a> {
         bands.last().map_or(Vec::new(), |band| band.labels(scale))
     }
 
-    /// U_set5, where the voltage comes near it.
-    fn draw_u_set5(&mut self, scale: ValueScale) -> Option<Label> {
-        let volts = f64::from(self.list[U_SET5]) / 1000.0;
-        if !scale.holds(volts) {
-            return None;
+    /// The limits of the readings in a panel, where they are watched and the scale reaches them.
+    fn draw_limits(&mut self, readings: &[usize], scale: ValueScale) -> Vec<Label> {
+        let watched = LIMITS.iter().filter(|limit| readings.contains(&limit.reading) && limit.is_watched(self.list));
+        let limits: Vec<(&str, f64)> = watched.map(|limit| (TABLE[limit.slot].name, self.thousandths(limit.slot))).collect();
+        let unit = READINGS[readings[0]].unit;
+        let mut labels = Vec::new();
+        for (name, value) in limits.into_iter().filter(|(_, value)| scale.holds(*value)) {
+            let y = scale.at(value);
+            let pen = Pen { colour: PURPLE, width: 1.5, dashes: "3 3" };
+            self.svg.line((self.time.left, y), (self.time.right(), y), pen);
+            labels.push(Label { words: format!("{name} {} {unit}", mark_text(value)), colour: PURPLE, y });
         }
-        let y = scale.at(volts);
-        self.svg.line((self.time.left, y), (self.time.right(), y), Pen { colour: VERMILLION, width: 1.2, dashes: "3 3" });
-        Some(Label { words: format!("U_set5 {} V", mark_text(volts)), colour: VERMILLION, y })
+        labels
+    }
+
+    fn thousandths(&self, slot: usize) -> f64 {
+        f64::from(self.list[slot]) / 1000.0
     }
 
     fn others(&mut self) {
@@ -148,7 +188,7 @@ impl<'a> Picture<'a> {
             let scale = ValueScale::around(low.min(0.0), high, self.y, SMALL_HEIGHT);
             let name = if unit == "A" { "current, A" } else { "3U0 and U2, V" };
             panel::axis(&mut self.svg, self.time, scale, name);
-            let mut labels = Vec::new();
+            let mut labels = self.draw_limits(&used, scale);
             for one in &series {
                 panel::draw(&mut self.svg, self.time, scale, one);
                 labels.extend(label_of(one, scale));
@@ -197,11 +237,20 @@ impl<'a> Picture<'a> {
             self.tip(lane, x + 3.0);
             x += 13.0;
         }
-        let words = format!("{} s", mark_text(f64::from(bar.tick) * value::TICK_MS as f64 / 1000.0));
-        if lane.timed && x + 4.0 + text_width(&words, 10.5) < next {
-            let style = Style { size: 10.5, colour: INK, anchor: Anchor::Start };
-            self.svg.text((x + 4.0, self.y + LANE / 2.0 + 4.0), &words, style);
+        let time = format!("{} s", mark_text(f64::from(bar.tick) * value::TICK_MS as f64 / 1000.0));
+        let fits = |words: &String| x + 4.0 + text_width(words, 10.5) < next;
+        let words = [format!("from {time}"), time].into_iter().find(fits);
+        if let Some(words) = words.filter(|_| lane.timed) {
+            self.time_of_bar(x + 4.0, &words);
         }
+    }
+
+    /// The time of a bar, on white, so that no line runs through it.
+    fn time_of_bar(&mut self, x: f64, words: &str) {
+        let area = Area { x: x - 2.0, y: self.y + 4.0, width: text_width(words, 10.5), height: LANE - 8.0 };
+        self.svg.area(area, "#FFFFFF", 1.0);
+        let style = Style { size: 10.5, colour: INK, anchor: Anchor::Start };
+        self.svg.text((x, self.y + LANE / 2.0 + 4.0), words, style);
     }
 
     fn tip(&mut self, lane: &Lane, x: f64) {
