@@ -65,7 +65,7 @@ pub fn bcd(text: &str) -> Result<u8, String> {
 
 /// The BCD lines of a tap below 100.
 pub fn lines_of(tap: u8) -> u8 {
-    tap / 10 << 4 | tap % 10
+    ((tap / 10) << 4) | (tap % 10)
 }
 
 pub fn bcd_text(lines: u8) -> String {

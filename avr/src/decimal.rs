@@ -22,9 +22,13 @@ impl Bad {
 
 /// `12.5` is 12,500 thousandths.
 pub fn thousandths(text: &str) -> Result<u64, Bad> {
-    if let Some(rest) = text.strip_prefix('-') {
-        return thousandths(rest).and(Err(Bad::Negative));
+    match text.strip_prefix('-') {
+        Some(rest) => unsigned(rest).and(Err(Bad::Negative)),
+        None => unsigned(text),
     }
+}
+
+fn unsigned(text: &str) -> Result<u64, Bad> {
     let (whole, fraction) = text.split_once('.').unwrap_or((text, ""));
     if !digits(whole) || !(fraction.is_empty() || digits(fraction)) || text.ends_with('.') {
         return Err(Bad::NotANumber);

@@ -52,8 +52,15 @@ impl Default for Nature {
 enum State {
     Quiet,
     /// `alone`: goes on without a command.
-    Starting { way: Way, left: u32, alone: bool },
-    Moving { way: Way, closed: u32 },
+    Starting {
+        way: Way,
+        left: u32,
+        alone: bool,
+    },
+    Moving {
+        way: Way,
+        closed: u32,
+    },
 }
 
 /// What the drive sees before a tick: the unit's outputs of the tick before, and the reset of this one.

@@ -27,7 +27,7 @@ pub fn extent(series: &[Series]) -> Option<(f64, f64)> {
 }
 
 /// The number of a reading that is not Invalid, and neither wild nor below 0.
-fn number(sample: &Sample) -> Option<f64> {
+pub fn number(sample: &Sample) -> Option<f64> {
     let value = f64::from(sample.value);
     (sample.quality != INVALID && (0.0..=1000.0).contains(&value)).then_some(value)
 }

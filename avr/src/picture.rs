@@ -9,7 +9,6 @@ use crate::run::{History, Signal};
 use crate::scale::{mark_text, TimeScale, ValueScale};
 use crate::sheet;
 use crate::svg::*;
-use crate::unit::Sample;
 use crate::value;
 
 const WIDTH: f64 = 1120.0;
@@ -132,9 +131,8 @@ impl<'a> Picture<'a> {
         }
         let bands = bands(&history.contacts, history.ticks, self.list);
         let edges = bands.iter().flat_map(|band| [band.middle - band.half, band.middle + band.half]);
-        let (low, high) = edges.fold(panel::extent(&series).unwrap_or((100.0, 100.0)), |(low, high), edge| {
-            (edge.min(low), edge.max(high))
-        });
+        let (low, high) =
+            edges.fold(panel::extent(&series).unwrap_or((100.0, 100.0)), |(low, high), edge| (edge.min(low), edge.max(high)));
         let scale = ValueScale::around(low, high, self.y, VOLTAGE_HEIGHT);
         let mut labels = self.draw_bands(&bands, scale);
         panel::axis(&mut self.svg, self.time, scale, "voltage, V");
@@ -357,10 +355,6 @@ fn key(contacts: u32) -> usize {
 
 /// The name of a series, at its last number.
 fn label_of(series: &Series, scale: ValueScale) -> Option<Label> {
-    let last: Option<&(u32, Sample)> = series.signal.last();
-    last.map(|(_, sample)| Label {
-        words: series.label.clone(),
-        colour: series.colour,
-        y: scale.at(f64::from(sample.value)),
-    })
+    let last = series.signal.iter().rev().find_map(|(_, sample)| panel::number(sample));
+    last.map(|value| Label { words: series.label.clone(), colour: series.colour, y: scale.at(value) })
 }

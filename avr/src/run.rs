@@ -18,7 +18,12 @@ pub struct History {
 }
 
 /// Runs all ticks of a source; `each` sees what every tick brings.
-pub fn run(mut unit: Unit, mut source: Source, progress: &mut Progress, mut each: impl FnMut(&Brought)) -> Result<History, Errors> {
+pub fn run(
+    mut unit: Unit,
+    mut source: Source,
+    progress: &mut Progress,
+    mut each: impl FnMut(&Brought),
+) -> Result<History, Errors> {
     let ticks = source.ticks();
     let mut history = History { ticks, ..History::default() };
     let mut outputs = [0; FIELDS];

@@ -91,5 +91,9 @@ fn marks(low: f64, high: f64, step: f64) -> Vec<f64> {
 pub fn mark_text(value: f64) -> String {
     let text = format!("{:.3}", value + 0.0);
     let text = text.trim_end_matches('0').trim_end_matches('.');
-    if text == "-0" { "0".to_string() } else { text.to_string() }
+    if text == "-0" {
+        "0".to_string()
+    } else {
+        text.to_string()
+    }
 }

@@ -32,6 +32,8 @@ enum Time {
 struct Reader {
     time: Time,
     scenario: Scenario,
+    /// The time of the row before, good or bad.
+    last: Option<u32>,
     ended: bool,
 }
 
@@ -70,7 +72,7 @@ impl Reader {
             other => return Err(format!("the first column must be `seconds` or `ticks`, and not `{other}`")),
         };
         let columns = columns::header(&cells[1..])?;
-        Ok(Reader { time, scenario: Scenario { columns, rows: Vec::new(), ticks: 0 }, ended: false })
+        Ok(Reader { time, scenario: Scenario { columns, rows: Vec::new(), ticks: 0 }, last: None, ended: false })
     }
 
     fn take(&mut self, text: &str) -> Result<(), String> {
@@ -78,9 +80,11 @@ impl Reader {
             return Err("a row after the end".to_string());
         }
         let cells = split(text);
-        let after = self.after(cells[0])?;
+        let after = self.time(cells[0])?;
+        let before = self.last.replace(after);
+        self.in_order(cells[0], before, after)?;
         if cells.get(1) == Some(&"end") {
-            return self.end(after, &cells[2..]);
+            return self.end(before, after, &cells[2..]);
         }
         let columns = &self.scenario.columns;
         if cells.len() > columns.len() + 1 {
@@ -91,17 +95,20 @@ impl Reader {
         Ok(())
     }
 
-    /// The time of a row, later than the row before.
-    fn after(&self, text: &str) -> Result<u32, String> {
-        let after = match self.time {
-            Time::Seconds => cells::seconds(text)?,
-            Time::Ticks => cells::ticks(text)?,
-        };
-        match self.scenario.rows.last() {
+    /// The time of a row, in ticks.
+    fn time(&self, text: &str) -> Result<u32, String> {
+        match self.time {
+            Time::Seconds => cells::seconds(text),
+            Time::Ticks => cells::ticks(text),
+        }
+    }
+
+    fn in_order(&self, text: &str, before: Option<u32>, after: u32) -> Result<(), String> {
+        match before {
             None if after != 0 => Err("the first row must be at time 0".to_string()),
-            Some(row) if after <= row.after => Err(format!("the time `{text}` is not after the row before")),
+            Some(before) if after <= before => Err(format!("the time `{text}` is not after the row before")),
             _ if after > LONGEST => Err(format!("the time `{text}` is beyond {} s", cells::seconds_text(LONGEST))),
-            _ => Ok(after),
+            _ => Ok(()),
         }
     }
 
@@ -120,8 +127,8 @@ impl Reader {
         Ok(Row { after, standing })
     }
 
-    fn end(&mut self, after: u32, rest: &[&str]) -> Result<(), String> {
-        if self.scenario.rows.is_empty() {
+    fn end(&mut self, before: Option<u32>, after: u32, rest: &[&str]) -> Result<(), String> {
+        if before.is_none() {
             return Err("the end comes before any row".to_string());
         }
         if rest.iter().any(|cell| !cell.is_empty()) {

@@ -1,0 +1,217 @@
+//! The command line: help, exit statuses, errors with file and line, nothing written on an error.
+
+mod common;
+
+use std::fs;
+
+use common::{avr, err, examples, out, Folder};
+
+const SCENARIO: &str = "seconds,U_AB,breaker,automatic\n0,98,1,1\n1,100\n2,end\n";
+const DRIVEN: &str = "seconds,U_AB,breaker,automatic,drive\n0,98,1,1,ok\n2,end\n";
+const SHEET: &str = "XB1 = on\nT1 = 0.5 s\nXB6 = counted\n";
+
+#[test]
+fn help_is_there_for_each_subcommand() {
+    for words in [
+        vec!["--help"],
+        vec!["help"],
+        vec!["sheet", "--help"],
+        vec!["sheet", "check", "--help"],
+        vec!["sheet", "show", "-h"],
+        vec!["scenario", "--help"],
+        vec!["scenario", "write", "--help"],
+        vec!["scenario", "show", "--help"],
+        vec!["run", "--help"],
+    ] {
+        let output = avr(&words);
+        assert_eq!(output.status.code(), Some(0), "{words:?}");
+        assert!(out(&output).contains("usage: avr"), "{words:?}");
+        assert_eq!(err(&output), "", "{words:?}");
+    }
+}
+
+#[test]
+fn a_wrong_command_line_is_status_2() {
+    for words in [
+        vec![],
+        vec!["fly"],
+        vec!["sheet"],
+        vec!["sheet", "fly"],
+        vec!["sheet", "check"],
+        vec!["sheet", "check", "a", "b"],
+        vec!["sheet", "check", "a", "--fast"],
+        vec!["sheet", "check", "a", "-o"],
+        vec!["sheet", "check", "a", "-x"],
+        vec!["sheet", "check", "a", "-o", "b", "-o", "c"],
+        vec!["scenario", "write", "a"],
+        vec!["run"],
+        vec!["run", "--sheet", "a"],
+        vec!["run", "--sheet", "a", "--scenario", "b", "--recording", "c"],
+        vec!["run", "a", "--sheet", "a", "--scenario", "b"],
+    ] {
+        let output = avr(&words);
+        assert_eq!(output.status.code(), Some(2), "{words:?}");
+        assert_eq!(out(&output), "", "{words:?}");
+        assert!(err(&output).starts_with("avr: "), "{words:?}");
+    }
+}
+
+#[test]
+fn a_sheet_is_checked_written_and_shown() {
+    let folder = Folder::new("sheet");
+    let (text, binary) = (folder.write("a.txt", SHEET), folder.path("a.sheet"));
+    let output = avr(&["sheet", "check", &text, "-o", &binary]);
+    assert_eq!(output.status.code(), Some(0), "{}", err(&output));
+    assert_eq!(out(&output), format!("{text}: taken; 3 settings named, 60 by default\n{binary}: written\n"));
+    assert_eq!(fs::read(&binary).expect("a SHEET").len(), 252);
+    let shown = avr(&["sheet", "show", &binary]);
+    assert!(out(&shown).contains("\nT1 = 0.5 s "));
+    let (again, second) = (folder.write("b.txt", out(&shown)), folder.path("b.sheet"));
+    assert_eq!(avr(&["sheet", "check", &again, &format!("--output={second}")]).status.code(), Some(0));
+    assert_eq!(fs::read(&binary).expect("one"), fs::read(&second).expect("two"));
+}
+
+#[test]
+fn a_refused_sheet_writes_nothing() {
+    let folder = Folder::new("refused");
+    let text = folder.write("a.txt", "XB1 = on\nU_supp1 = 141 V\n");
+    let output = avr(&["sheet", "check", &text, "-o", &folder.path("a.sheet")]);
+    assert_eq!((output.status.code(), out(&output).as_str()), (Some(1), ""));
+    let told = "U_supp1 = 141 V: it takes 80 V to 140 V in steps of 0.1 V (refusal 2, slot 19)";
+    assert_eq!(err(&output), format!("avr: {text}:2: {told}\n"));
+    let scenario = folder.write("a.csv", SCENARIO);
+    let (table, svg) = (folder.path("t"), folder.path("p"));
+    let output = avr(&["run", "--sheet", &text, "--scenario", &scenario, "--table", &table, "--svg", &svg]);
+    assert_eq!(output.status.code(), Some(1));
+    assert_eq!(folder.names(), ["a.csv", "a.txt"]);
+}
+
+#[test]
+fn a_refused_binary_sheet_is_not_shown() {
+    let folder = Folder::new("binary");
+    let zeros = folder.write("zeros", [0; 252]);
+    let output = avr(&["sheet", "show", &zeros]);
+    assert_eq!((output.status.code(), out(&output).as_str()), (Some(1), ""));
+    assert!(err(&output).contains("(refusal 2, slot 19)"));
+    let output = avr(&["sheet", "show", &folder.write("short", [0; 4])]);
+    assert!(err(&output).contains("(refusal 1, slot 0)"));
+}
+
+#[test]
+fn a_scenario_is_written_and_shown() {
+    let folder = Folder::new("scenario");
+    let (csv, recording) = (folder.write("a.csv", SCENARIO), folder.path("a.rec"));
+    let output = avr(&["scenario", "write", &csv, "-o", &recording]);
+    assert_eq!(out(&output), format!("{recording}: written, 400 ticks\n"), "{}", err(&output));
+    assert_eq!(fs::read(&recording).expect("a RECORDING").len(), 400 * 36);
+    let shown = avr(&["scenario", "show", &recording]);
+    let wanted = "seconds,U_AB,3U0,U2,I_high,I_bus,I_coupler,breaker,automatic\n0,98,0,0,0,0,0,1,1\n1,100,,,,,,,\n2,end\n";
+    assert_eq!(out(&shown), wanted);
+    let (again, second) = (folder.write("b.csv", out(&shown)), folder.path("b.rec"));
+    avr(&["scenario", "write", &again, "-o", &second]);
+    assert_eq!(fs::read(&recording).expect("one"), fs::read(&second).expect("two"));
+}
+
+#[test]
+fn a_scenario_with_a_drive_needs_a_sheet() {
+    let folder = Folder::new("drive");
+    let (csv, sheet, recording) = (folder.write("a.csv", DRIVEN), folder.write("a.txt", SHEET), folder.path("a.rec"));
+    let output = avr(&["scenario", "write", &csv, "-o", &recording]);
+    assert_eq!(output.status.code(), Some(1));
+    assert!(err(&output).contains("--sheet"));
+    assert_eq!(folder.names(), ["a.csv", "a.txt"]);
+    let output = avr(&["scenario", "write", &csv, "-o", &recording, "--sheet", &sheet]);
+    assert_eq!(output.status.code(), Some(0), "{}", err(&output));
+    assert_eq!(fs::read(&recording).expect("a RECORDING").len(), 400 * 36);
+}
+
+/// The outputs' lines of a table, with the time and tick they stand under.
+fn outputs(table: &str) -> Vec<String> {
+    let mut time = String::new();
+    let mut lines = Vec::new();
+    for line in table.lines() {
+        let head = line.get(..22).unwrap_or("").trim();
+        if !head.is_empty() {
+            time = head.to_string();
+        }
+        if line.contains("  out  ") {
+            lines.push(format!("{time} {}", line.get(24..).unwrap_or("")));
+        }
+    }
+    lines
+}
+
+#[test]
+fn a_recording_of_an_example_runs_as_the_example_does() {
+    let folder = Folder::new("replay");
+    for story in ["two-steps", "sliding-tap", "long-move"] {
+        let place = |name: &str| examples().join(story).join(name).to_str().expect("a plain path").to_string();
+        let (sheet, scenario, recording) = (place("sheet.txt"), place("scenario.csv"), folder.path("a.rec"));
+        let written = avr(&["scenario", "write", &scenario, "--sheet", &sheet, "-o", &recording]);
+        assert!(written.status.success(), "{}", err(&written));
+        let replayed = avr(&["run", "--sheet", &sheet, "--recording", &recording]);
+        let stored = fs::read_to_string(place("table.txt")).expect("a table");
+        assert_eq!(outputs(&out(&replayed)), outputs(&stored), "{story}");
+        assert!(outputs(&stored).len() > 5);
+    }
+}
+
+#[test]
+fn a_run_says_what_changed_and_where_the_picture_is() {
+    let folder = Folder::new("run");
+    let (csv, sheet, svg) = (folder.write("a.csv", SCENARIO), folder.write("a.txt", SHEET), folder.path("a.svg"));
+    let output = avr(&["run", "--sheet", &sheet, "--scenario", &csv, "--svg", &svg]);
+    assert!(output.status.success(), "{}", err(&output));
+    assert!(out(&output).contains("0.500        100  out  RAISE command"), "{}", out(&output));
+    assert!(err(&output).contains(&format!("the picture is in {svg}")));
+    let picture = fs::read_to_string(&svg).expect("a picture");
+    assert!(picture.starts_with("<svg ") && picture.ends_with("</svg>\n"));
+}
+
+#[test]
+fn files_that_cannot_be_read_or_written_are_told() {
+    let folder = Folder::new("files");
+    let sheet = folder.write("a.txt", SHEET);
+    let output = avr(&["sheet", "check", &folder.path("none")]);
+    assert_eq!(output.status.code(), Some(1));
+    assert_eq!(err(&output), format!("avr: {}: No such file or directory\n", folder.path("none")));
+    for target in [folder.path("none/a.sheet"), folder.path("")] {
+        let output = avr(&["sheet", "check", &sheet, "-o", &target]);
+        assert_eq!((output.status.code(), out(&output).as_str()), (Some(1), ""), "{target}");
+    }
+    assert_eq!(folder.names(), ["a.txt"]);
+}
+
+#[test]
+fn an_input_is_not_written_over() {
+    let folder = Folder::new("over");
+    let (csv, sheet) = (folder.write("a.csv", SCENARIO), folder.write("a.txt", SHEET));
+    for words in [
+        vec!["sheet", "check", &sheet, "-o", &sheet],
+        vec!["scenario", "write", &csv, "-o", &csv],
+        vec!["run", "--sheet", &sheet, "--scenario", &csv, "--svg", &csv],
+        vec!["run", "--sheet", &sheet, "--scenario", &csv, "--svg", "new", "--table", "new"],
+    ] {
+        assert_eq!(avr(&words).status.code(), Some(1), "{words:?}");
+    }
+    assert_eq!(fs::read_to_string(&csv).expect("still there"), SCENARIO);
+    assert_eq!(fs::read_to_string(&sheet).expect("still there"), SHEET);
+}
+
+#[test]
+fn a_second_target_that_fails_leaves_the_first_unwritten() {
+    let folder = Folder::new("two");
+    let (csv, sheet) = (folder.write("a.csv", SCENARIO), folder.write("a.txt", SHEET));
+    let (table, svg) = (folder.path("t"), folder.path("none/p"));
+    let output = avr(&["run", "--sheet", &sheet, "--scenario", &csv, "--table", &table, "--svg", &svg]);
+    assert_eq!(output.status.code(), Some(1));
+    assert_eq!(folder.names(), ["a.csv", "a.txt"]);
+}
+
+#[test]
+fn a_device_is_written_in_place() {
+    let folder = Folder::new("device");
+    let sheet = folder.write("a.txt", SHEET);
+    assert!(avr(&["sheet", "check", &sheet, "-o", "/dev/null"]).status.success());
+    assert!(!fs::metadata("/dev/null").expect("still there").is_file());
+}

@@ -1,0 +1,80 @@
+//! Pictures: the band that is drawn is the library's, and long runs stay small.
+
+mod common;
+
+use std::time::Duration;
+
+use avr::inputs::with;
+use avr::outputs::{HIGH, LOW};
+use avr::picture::{bands, picture};
+use avr::play::Source;
+use avr::progress::{line, Progress};
+use avr::run;
+use avr::unit::{start, Brought, Sample};
+use common::{defaults, Dice};
+
+/// A sheet in service with four different voltages to hold.
+fn sheet() -> Vec<u32> {
+    let mut list = defaults(0);
+    list[0] = 1;
+    list[19..23].copy_from_slice(&[100_000, 95_000, 110_000, 120_000]);
+    list
+}
+
+fn tick(volts: f32, contacts: u32) -> Brought {
+    let mut brought = Brought { contacts, ..Brought::default() };
+    brought.readings[0] = Sample { quality: 0, value: volts };
+    brought
+}
+
+#[test]
+fn the_band_that_is_drawn_is_the_one_the_unit_goes_by() {
+    let list = sheet();
+    for keys in 0..8 {
+        let contacts = with(0, 0, true) | keys << 16;
+        let band = &bands(&vec![(1, contacts)], 1, &list)[0];
+        for half_volts in 160..280 {
+            let volts = half_volts as f32 / 2.0;
+            let outputs = start(&list).expect("taken").tick(&tick(volts, contacts)).expect("a tick");
+            let low = f64::from(volts) <= band.middle - band.half;
+            let high = f64::from(volts) >= band.middle + band.half;
+            assert_eq!((outputs[LOW] == 1, outputs[HIGH] == 1), (low, high), "keys {keys}, {volts} V");
+        }
+    }
+}
+
+#[test]
+fn a_long_noisy_run_gives_a_small_picture() {
+    let mut dice = Dice(5);
+    let ticks: Vec<Brought> =
+        (0..100_000).map(|_| tick(95.0 + dice.below(1000) as f32 / 100.0, 1 | dice.below(2) << 9)).collect();
+    let list = sheet();
+    let unit = start(&list).expect("taken");
+    let history = run::run(unit, Source::Recording(&ticks), &mut Progress::usual(), |_| ()).expect("a run");
+    let text = picture(&history, &list, "<noise & \"quotes\">");
+    assert!(text.len() < 600_000, "{}", text.len());
+    assert!(text.contains("<title>&lt;noise &amp; &quot;quotes&quot;&gt;</title>"));
+}
+
+#[test]
+fn a_run_of_one_tick_and_readings_of_every_kind_can_be_drawn() {
+    let list = sheet();
+    for value in [f32::NAN, f32::INFINITY, -1.0, 0.0, 1e30] {
+        for quality in [0, 1, 2] {
+            let mut brought = tick(0.0, 1);
+            brought.readings = [Sample { quality, value }; 6];
+            let unit = start(&list).expect("taken");
+            let history = run::run(unit, Source::Recording(&[brought]), &mut Progress::usual(), |_| ()).expect("a run");
+            let text = picture(&history, &list, "one tick");
+            assert!(!text.contains("NaN") && !text.contains("inf\""), "{value} {quality}");
+        }
+    }
+}
+
+#[test]
+fn progress_is_a_line() {
+    assert_eq!(line(720_000, 1_440_000), "avr:  50 %, tick 720000 of 1440000");
+    let mut progress = Progress::new(Duration::ZERO);
+    progress.tick(1 << 14, 1 << 15);
+    progress.end();
+}

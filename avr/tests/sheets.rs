@@ -1,0 +1,307 @@
+//! Sheets: round trips, the table of names against the library, every refusal by name, bad files.
+
+mod common;
+
+use avr::names::{Kind, ABSENT, N_L, N_POS, N_R, TABLE};
+use avr::sheet::{self, explain, refusals};
+use avr::unit::{start, Refusal, SLOTS};
+use avr::{decimal, value};
+use common::{bytes, defaults, file, Dice};
+
+fn problems(text: &str) -> Vec<String> {
+    sheet::read(&file(text)).expect_err("a bad sheet")
+}
+
+fn one_problem(text: &str) -> String {
+    let problems = problems(text);
+    assert_eq!(problems.len(), 1, "{problems:?}");
+    problems[0].clone()
+}
+
+fn slot_of(text: &str, slot: usize) -> u32 {
+    sheet::read(&file(text)).expect("a good sheet").list[slot]
+}
+
+/// Whether the table of names takes a number.
+fn table_takes(slot: usize, module: u32, number: u32) -> bool {
+    let (low, high) = TABLE[slot].bounds(module);
+    (low..=high).contains(&number) && (number - low) % TABLE[slot].step == 0
+}
+
+/// Numbers at and around the edges of a slot.
+fn edges(slot: usize, module: u32) -> Vec<u32> {
+    let (low, high) = TABLE[slot].bounds(module);
+    let step = TABLE[slot].step;
+    let mut numbers = vec![0, 1, low, low + 1, low + step, high, high + 1, high + step, u32::MAX];
+    numbers.extend([low.checked_sub(1), low.checked_sub(step), high.checked_sub(1), high.checked_sub(step)].iter().flatten());
+    numbers.extend([low + step / 2, low + 5 * step, low.wrapping_mul(5), high.wrapping_mul(5), high / 5]);
+    numbers
+}
+
+#[test]
+fn the_table_of_names_agrees_with_the_library_at_every_edge() {
+    for module in [0, 1] {
+        for slot in (0..SLOTS).filter(|slot| *slot != 1) {
+            for number in edges(slot, module) {
+                let mut list = defaults(module);
+                list[slot] = number;
+                let refused = start(&list).err();
+                match table_takes(slot, module, number) {
+                    true => assert!(refused.is_none_or(|r| r.number == 3), "slot {slot} takes {number}: {refused:?}"),
+                    false => assert_eq!(refused, Some(Refusal { number: 2, slot: slot as u32 }), "slot {slot}: {number}"),
+                }
+            }
+        }
+    }
+}
+
+#[test]
+fn the_module_takes_0_and_1() {
+    for number in [0, 1] {
+        assert!(start(&defaults(number)).is_ok());
+    }
+    for number in [2, 5, u32::MAX] {
+        let mut list = defaults(0);
+        list[1] = number;
+        assert_eq!(start(&list).err(), Some(Refusal { number: 2, slot: 1 }));
+    }
+}
+
+#[test]
+fn the_defaults_are_those_of_the_manual() {
+    let list = sheet::read(&file("XB1 = off")).expect("defaults").list;
+    let text = sheet::to_text(&list);
+    for line in [
+        "I_nom = 1 A",
+        "U_supp4 = 100 V",
+        "dU_set = 2 V",
+        "U_comp = 5 V",
+        "I_set1 = 1 A",
+        "I_set3 = 0.1 A",
+        "U_set1 = 120 V",
+        "U_set2 = 80 V",
+        "U_set3 = 10 V",
+        "U_set4 = 5 V",
+        "U_set5 = 110 V",
+        "T1 = 120 s",
+        "T2 = 60 s",
+        "T3 = 20 s",
+        "T4 = 15 s",
+        "T5 = 5 s",
+        "T6 = 0 s",
+        "T7 = 0 s",
+        "T8 = 10 s",
+        "T9 = 9 s",
+        "T10 = 9 s",
+        "T11 = 0.05 s",
+        "T15 = 0.05 s",
+        "N_pos = 20",
+        "N_R = 40",
+        "N_L = 1",
+        "N_start = 0",
+        "N_max = 50000",
+        "N10 = empty",
+        "XB14 = block",
+        "XB17 = pulse",
+        "XB20 = off",
+    ] {
+        assert!(text.contains(&format!("\n{line} ")), "{line}\n{text}");
+    }
+    assert_eq!(slot_of("I_nom = 5 A", 25), 5000);
+    assert_eq!(slot_of("I_nom = 5 A", 27), 500);
+}
+
+#[test]
+fn each_slot_has_a_name_of_its_own() {
+    for (at, slot) in TABLE.iter().enumerate() {
+        assert_eq!(avr::names::find(slot.name), Some(at));
+        assert!(ABSENT.iter().all(|(name, _)| *name != slot.name));
+        assert!(!slot.meaning.is_empty());
+    }
+}
+
+/// A chance sheet that is taken.
+fn chance(dice: &mut Dice) -> Vec<u32> {
+    let module = dice.below(2);
+    let mut list: Vec<u32> = TABLE
+        .iter()
+        .map(|slot| {
+            let (low, high) = slot.bounds(module);
+            low + slot.step * dice.below((high - low) / slot.step + 1)
+        })
+        .collect();
+    list[1] = module;
+    list[N_L] = 1 + dice.below(20);
+    list[N_R] = list[N_L] + 1 + dice.below(40 - list[N_L]);
+    list[N_POS] = list[N_L] + dice.below(list[N_R] - list[N_L] + 1);
+    list
+}
+
+#[test]
+fn sheets_go_to_text_and_back() {
+    let mut dice = Dice(1);
+    for _ in 0..300 {
+        let list = chance(&mut dice);
+        let read = sheet::read(&file(&sheet::to_text(&list))).expect("its own text");
+        assert_eq!((read.list, read.named), (list.clone(), SLOTS));
+        let binary = bytes(sheet::to_bytes(&list));
+        assert_eq!(binary.bytes.len(), 252);
+        assert_eq!(sheet::read_binary(&binary).expect("its own bytes").list, list);
+        assert_eq!(sheet::read(&binary).expect("a SHEET in place of text").list, list);
+    }
+}
+
+#[test]
+fn any_number_of_any_slot_goes_to_text_and_back() {
+    let mut dice = Dice(2);
+    for slot in &TABLE {
+        for number in [0, 1, 2, 7, 1999, u32::MAX, dice.next(), dice.next()] {
+            assert_eq!(value::number(slot, &value::text(slot, number)), Ok(number), "{}", slot.name);
+        }
+    }
+}
+
+#[test]
+fn values_are_written_as_people_write_them() {
+    for (text, slot, number) in [
+        ("U_supp1 = 100.5 V", 19, 100_500),
+        ("U_supp1=100.5", 19, 100_500),
+        ("  U_supp1 = 99900 mV  # a comment", 19, 99_900),
+        ("T1 = 0.1 s", 33, 20),
+        ("T1 = 2.5s\r", 33, 500),
+        ("T1 = 1500 ms", 33, 300),
+        ("T1 = 4000 ticks", 33, 4000),
+        ("I_set1 = 1.234 A", 25, 1234),
+        ("I_nom = 5A", 1, 1),
+        ("I_nom = 1 a", 1, 0),
+        ("XB6 = bcd", 5, 1),
+        ("XB6 = counted-reversed", 5, 4),
+        ("XB4 = u_comp", 3, 1),
+        ("XB5 = bus+coupler", 4, 3),
+        ("XB5 = bus - coupler", 4, 2),
+        ("XB17 = lasting", 16, 1),
+        ("N3 = 7", 55, 7),
+        ("N3 = empty", 55, 0),
+        ("N_max = 500000", 52, 500_000),
+        ("T2 = raw 777", 34, 777),
+        ("\u{feff}T2 = 1", 34, 200),
+    ] {
+        assert_eq!(slot_of(text, slot), number, "{text}");
+    }
+}
+
+#[test]
+fn every_slot_out_of_range_is_told_by_name_value_range_step_number_and_slot() {
+    for (at, slot) in TABLE.iter().enumerate() {
+        let text = format!("# one line\n{} = raw {}", slot.name, slot.high * 5 + 7 * slot.step);
+        let told = problems(&text)[0].clone();
+        let shown = value::text(slot, slot.high * 5 + 7 * slot.step);
+        assert!(told.starts_with(&format!("file:2: {} = {shown}: it takes ", slot.name)), "{told}");
+        assert!(told.ends_with(&format!("(refusal 2, slot {at})")), "{told}");
+        match slot.kind {
+            Kind::Words(words) => assert!(told.contains(&words.join(" or ")), "{told}"),
+            _ => {
+                let (low, high) = (value::text(slot, slot.low), value::text(slot, slot.high));
+                assert!(told.contains(&format!("{low} to {high} in steps of ")), "{told}");
+            }
+        }
+    }
+}
+
+#[test]
+fn a_refusal_reads_well() {
+    assert_eq!(
+        one_problem("U_supp1 = 140.1 V"),
+        "file:1: U_supp1 = 140.1 V: it takes 80 V to 140 V in steps of 0.1 V (refusal 2, slot 19)"
+    );
+    assert_eq!(
+        one_problem("dU_set = 1.05"),
+        "file:1: dU_set = 1.05 V: it takes 1 V to 40 V in steps of 0.1 V (refusal 2, slot 23)"
+    );
+    assert_eq!(
+        one_problem("\n\nT8 = 10.005 s"),
+        "file:3: T8 = 10.005 s: it takes 0.1 s to 10 s in steps of 0.005 s (refusal 2, slot 40)"
+    );
+    assert_eq!(
+        one_problem("I_nom = 5 A\nI_set3 = 0.1 A"),
+        "file:2: I_set3 = 0.1 A: it takes 0.25 A to 25 A in steps of 0.001 A (refusal 2, slot 27)"
+    );
+}
+
+#[test]
+fn the_order_of_the_taps_is_told() {
+    assert_eq!(
+        one_problem("N_L = 9\nN_R = 9\nN_pos = 9"),
+        "file:2: N_R = 9: it takes 1 to 40 in steps of 1, and must be above N_L = 9 (refusal 3, slot 49)"
+    );
+    assert_eq!(
+        one_problem("N_R = 19"),
+        "file: N_pos = 20: it takes 1 to 40 in steps of 1, and must lie from N_L = 1 to N_R = 19 (refusal 3, slot 48)"
+    );
+}
+
+#[test]
+fn a_list_of_another_length_is_told() {
+    for length in [0, 1, 62, 64, 100] {
+        let list = vec![0; length];
+        let refusal = Refusal { number: 1, slot: 0 };
+        assert_eq!(refusals(&list), [refusal]);
+        assert_eq!(explain(&list, refusal), format!("the list has {length} numbers, a sheet has 63 (refusal 1, slot 0)"));
+    }
+    let told = sheet::read_binary(&bytes(vec![0; 248])).expect_err("62 numbers");
+    assert_eq!(told, ["file: the list has 62 numbers, a sheet has 63 (refusal 1, slot 0)"]);
+    let told = sheet::read(&bytes(vec![0; 251])).expect_err("no numbers");
+    assert_eq!(told, ["file: 251 bytes are no list of 32-bit numbers; a SHEET has 252"]);
+}
+
+#[test]
+fn all_refusals_are_told_at_once() {
+    let told = problems("T1 = 0\nU_supp2 = 200\nN_R = 41\nN_L = 40");
+    let slots: Vec<&str> = told.iter().map(|line| line.rsplit(' ').next().unwrap_or("")).collect();
+    assert_eq!(slots, ["20)", "33)", "49)"]);
+}
+
+#[test]
+fn bad_lines_are_told_with_their_line() {
+    for (text, told) in [
+        ("XB1 = on\nT1 20", "file:2: `T1 20` is not `name = value`"),
+        ("XB1 = on\n\nT99 = 1", "file:3: no setting is called `T99`"),
+        ("t1 = 1", "file:1: no setting is called `t1`; T1 is one"),
+        ("XB2 = on", "file:1: XB2 is no setting of this unit: this unit regulates by pulses only"),
+        ("dU = 2", "file:1: dU is no setting of this unit: write dU_set"),
+        ("T1 =  # nothing", "file:1: T1 has no value"),
+        ("T1 = 5\nT2 = 5\nT1 = 5", "file:3: T1 is given again; line 1 gives it too"),
+        ("T1 = 5 V", "file:1: T1 = 5 V: has the unit `V`, and not s or ms or ticks; it takes 0.1 s to 180 s in steps of 0.005 s (slot 33)"),
+        ("T1 = -5", "file:1: T1 = -5: is below 0; it takes 0.1 s to 180 s in steps of 0.005 s (slot 33)"),
+        ("T1 = 5,5", "file:1: T1 = 5,5: is not a number; it takes 0.1 s to 180 s in steps of 0.005 s (slot 33)"),
+        ("T1 = 0.101", "file:1: T1 = 0.101: is finer than a sheet can hold; it takes 0.1 s to 180 s in steps of 0.005 s (slot 33)"),
+        ("T1 = 0.1001", "file:1: T1 = 0.1001: has more than three decimals; it takes 0.1 s to 180 s in steps of 0.005 s (slot 33)"),
+        ("T1 = 99999999999", "file:1: T1 = 99999999999: is too large; it takes 0.1 s to 180 s in steps of 0.005 s (slot 33)"),
+        ("N_R = 1.5", "file:1: N_R = 1.5: is not a whole number; it takes 1 to 40 in steps of 1 (slot 49)"),
+        ("XB1 = 1", "file:1: XB1 = 1: is none of its words; it takes off or on (slot 0)"),
+        ("T1 = raw x", "file:1: T1 = raw x: `x` is no number of 32 bits; it takes 0.1 s to 180 s in steps of 0.005 s (slot 33)"),
+        ("", "file: no setting is named in it"),
+        ("# nothing\n\n", "file: no setting is named in it"),
+    ] {
+        assert_eq!(one_problem(text), told);
+    }
+}
+
+#[test]
+fn a_file_that_is_no_text_is_told() {
+    let told = sheet::read(&bytes(b"XB1 = on\nT1 = \xff\n".to_vec())).expect_err("no text");
+    assert_eq!(told, ["file:2: this is no text (not UTF-8)"]);
+}
+
+#[test]
+fn decimals_are_exact() {
+    for (text, number) in [("0", 0), ("0.001", 1), ("100.1", 100_100), ("007", 7000), ("1.500000", 1500)] {
+        assert_eq!(decimal::thousandths(text), Ok(number));
+    }
+    for text in ["", ".", ".5", "5.", "1e3", "+1", "1 2", "1.2.3", "--1", "½"] {
+        assert_eq!(decimal::thousandths(text), Err(decimal::Bad::NotANumber), "{text}");
+    }
+    for number in [0, 1, 10, 100, 1000, 1010, 123_456] {
+        assert_eq!(decimal::thousandths(&decimal::text(number)), Ok(number));
+    }
+}

@@ -1,0 +1,130 @@
+//! The examples: each table and picture is the stored one, and no text lies on another.
+
+mod common;
+
+use std::fs;
+
+use common::{avr, err, examples, Folder};
+
+const STORIES: [&str; 10] = [
+    "acceleration",
+    "compensation",
+    "fast-move",
+    "long-move",
+    "manual-keys",
+    "not-started",
+    "organ-blocks",
+    "run-away",
+    "sliding-tap",
+    "two-steps",
+];
+
+fn read(story: &str, name: &str) -> String {
+    let path = examples().join(story).join(name);
+    fs::read_to_string(&path).unwrap_or_else(|error| panic!("{}: {error}", path.display()))
+}
+
+fn path(story: &str, name: &str) -> String {
+    examples().join(story).join(name).to_str().expect("a plain path").to_string()
+}
+
+/// What stands between two marks.
+fn between<'a>(text: &'a str, from: &str, to: &str) -> &'a str {
+    let rest = text.split_once(from).expect("the first mark").1;
+    rest.split_once(to).expect("the second mark").0
+}
+
+#[test]
+fn there_are_ten_stories() {
+    let entries = fs::read_dir(examples()).expect("examples");
+    let folders = entries.filter_map(Result::ok).filter(|entry| entry.path().is_dir());
+    let mut names: Vec<String> = folders.map(|entry| entry.file_name().into_string().expect("text")).collect();
+    names.sort();
+    assert_eq!(names, STORIES);
+}
+
+#[test]
+fn each_story_is_as_stored() {
+    let folder = Folder::new("stories");
+    for story in STORIES {
+        let (table, picture) = (folder.path("table.txt"), folder.path("picture.svg"));
+        let title = between(&read(story, "picture.svg"), "<title>", "</title>").to_string();
+        let (sheet, scenario) = (path(story, "sheet.txt"), path(story, "scenario.csv"));
+        let words =
+            ["run", "--sheet", &sheet, "--scenario", &scenario, "--table", &table, "--svg", &picture, "--title", &title];
+        let output = avr(&words);
+        assert!(output.status.success(), "{story}: {}", err(&output));
+        assert_eq!(fs::read_to_string(&table).expect("a table"), read(story, "table.txt"), "{story}");
+        assert_eq!(fs::read_to_string(&picture).expect("a picture"), read(story, "picture.svg"), "{story}");
+    }
+}
+
+#[test]
+fn each_story_is_told() {
+    for (story, told) in [
+        ("two-steps", vec!["30.000       6000  out  RAISE command", "44.500       8900  out  RAISE command"]),
+        ("acceleration", vec!["8.000       1600  out  LOWER command"]),
+        ("not-started", vec!["out  FAULT: drive not started", "fault cleared"]),
+        ("run-away", vec!["out  FAULT: run-away", "out  SUPPLY TRIP"]),
+        ("long-move", vec!["out  FAULT: long move", "out  SUPPLY TRIP"]),
+        ("fast-move", vec!["out  FAULT: fast move"]),
+        ("sliding-tap", vec!["out  tap 10", "out  tap 11", "operations 2"]),
+        ("manual-keys", vec!["raise button pressed", "out  RAISE command", "out  LOWER command"]),
+        ("organ-blocks", vec!["TRIP: I_bus over I_set2", "out  automatic blocked", "out  automatic free"]),
+        ("compensation", vec!["I_bus 0.4 A\n                        out  voltage low"]),
+    ] {
+        let table = read(story, "table.txt");
+        told.iter().for_each(|words| assert!(table.contains(words), "{story}: {words}\n{table}"));
+    }
+}
+
+struct Box {
+    left: f64,
+    right: f64,
+    top: f64,
+    bottom: f64,
+    words: String,
+}
+
+/// The box of a `<text>` line.
+fn text_box(line: &str) -> Box {
+    let number = |name: &str| -> f64 { between(line, &format!(" {name}=\""), "\"").parse().expect("a number") };
+    let (x, y, size) = (number("x"), number("y"), number("font-size"));
+    let words = between(line, ">", "<").to_string();
+    let width = words.chars().count() as f64 * size * 0.55;
+    let left = match between(line, "text-anchor=\"", "\"") {
+        "start" => x,
+        "middle" => x - width / 2.0,
+        _ => x - width,
+    };
+    Box { left, right: left + width, top: y - size * 0.8, bottom: y + size * 0.1, words }
+}
+
+#[test]
+fn no_text_lies_on_another_or_outside_the_picture() {
+    for story in STORIES {
+        let picture = read(story, "picture.svg");
+        let boxes: Vec<Box> = picture.lines().filter(|line| line.starts_with("<text")).map(text_box).collect();
+        assert!(boxes.len() > 20, "{story}");
+        for (at, a) in boxes.iter().enumerate() {
+            assert!(a.left >= 0.0 && a.right <= 1120.0, "{story}: {} is outside", a.words);
+            for b in &boxes[at + 1..] {
+                let apart = a.right <= b.left || b.right <= a.left || a.bottom <= b.top || b.bottom <= a.top;
+                assert!(apart, "{story}: {} lies on {}", a.words, b.words);
+            }
+        }
+    }
+}
+
+#[test]
+fn pictures_use_the_palette_only() {
+    let known = [
+        "#000000", "#E69F00", "#56B4E9", "#009E73", "#F0E442", "#0072B2", "#D55E00", "#CC79A7", "#222222", "#D8D8D8",
+        "#666666", "#FFFFFF", "#ECECEC",
+    ];
+    for story in STORIES {
+        for part in read(story, "picture.svg").split('"').filter(|part| part.starts_with('#')) {
+            assert!(known.contains(&part), "{story}: {part}");
+        }
+    }
+}
