@@ -23,7 +23,9 @@ fn scene() -> (Record, Vec<Input>) {
     let record = reference::sheet::check(&list).expect("a sheet that is taken");
     let inputs = bytes
         .chunks_exact(36)
-        .map(|b| reference::recording::tick_from_bytes(b.try_into().expect("36 bytes")).expect("a tick"))
+        .map(|b| {
+            reference::recording::tick_from_bytes(b.try_into().expect("36 bytes")).expect("a tick")
+        })
         .collect();
     (record, inputs)
 }
@@ -71,7 +73,10 @@ fn second(start: &Record, ticks: &[Input], runs: u32) -> u64 {
 fn timed(runs: u32, way: impl Fn(u32) -> u64) -> (f64, u64) {
     let from = Instant::now();
     let sum = way(runs);
-    (from.elapsed().as_nanos() as f64 / (f64::from(runs) * TICKS as f64), sum)
+    (
+        from.elapsed().as_nanos() as f64 / (f64::from(runs) * TICKS as f64),
+        sum,
+    )
 }
 
 fn main() {
@@ -92,10 +97,21 @@ fn main() {
             let (c, z) = timed(runs, |n| second(&record, &inputs, n));
             assert!(x == y && y == z, "the three ways differ");
             println!("ticks: {} a way", u64::from(runs) * TICKS as u64);
-            for (name, ns) in [("proved, lent", a), ("proved, by value", b), ("second program", c)] {
-                println!("{name:18} {ns:7.1} ns a tick, {:9.0} ticks a second", 1e9 / ns);
+            for (name, ns) in [
+                ("proved, lent", a),
+                ("proved, by value", b),
+                ("second program", c),
+            ] {
+                println!(
+                    "{name:18} {ns:7.1} ns a tick, {:9.0} ticks a second",
+                    1e9 / ns
+                );
             }
-            println!("ratio, lent to second program: {:.2}; by value: {:.2}", a / c, b / c);
+            println!(
+                "ratio, lent to second program: {:.2}; by value: {:.2}",
+                a / c,
+                b / c
+            );
         }
     }
 }

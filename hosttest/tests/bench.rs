@@ -1,0 +1,186 @@
+//! The scope paper's bench values that are not proved together, and its five 'wrong and inviting' ones, on the proved library; each
+//! tick is held to the second program's as well.
+
+use hosttest::convert::{brought, image_of};
+use hosttest::{start, tick, Image, Outputs, FIELDS};
+use reference::dice::Dice;
+use reference::input::{Contacts, Input};
+use reference::reading::Reading;
+use reference::record::Record;
+use reference::values::BASE;
+
+const BREAKER: u32 = 1;
+const CLOSED: u32 = 1 << 1;
+const AUTOMATIC: u32 = 1 << 14;
+const RAISE_BUTTON: u32 = 1 << 19;
+
+/// A unit on the bench, with the second program beside it.
+struct Unit {
+    image: Image,
+    record: Record,
+    dice: Dice,
+}
+
+impl Unit {
+    /// The worked values' sheet with organs off, and these slots set.
+    fn new(slots: &[(usize, u32)]) -> Unit {
+        let mut sheet = BASE;
+        sheet[6..13].fill(0);
+        for &(slot, number) in slots {
+            sheet[slot] = number;
+        }
+        let started = start(&sheet);
+        assert_eq!((started.number, started.slot), (0, 0));
+        let record = reference::sheet::check(&sheet).expect("a sheet that is taken");
+        assert_eq!(started.image, image_of(&record));
+        Unit {
+            image: started.image,
+            record,
+            dice: Dice::new(1),
+        }
+    }
+
+    fn tick(&mut self, input: &Input) -> [u32; FIELDS] {
+        let mut outputs = Outputs {
+            fields: [9; FIELDS],
+        };
+        assert_eq!(
+            tick(
+                &mut self.image,
+                &brought(input, &mut self.dice),
+                &mut outputs
+            ),
+            0
+        );
+        let second = reference::tick::tick(&self.record, input);
+        assert_eq!(outputs.fields, second.outputs);
+        self.record = second.next;
+        assert_eq!(self.image, image_of(&self.record));
+        outputs.fields
+    }
+
+    /// The outputs of the last of n ticks.
+    fn ticks(&mut self, n: u32, input: &Input) -> [u32; FIELDS] {
+        let mut last = [0; FIELDS];
+        for _ in 0..n {
+            last = self.tick(input);
+        }
+        last
+    }
+}
+
+/// A tick with this U_AB, the breaker closed, and these contacts.
+fn volts(u_ab: f32, contacts: u32) -> Input {
+    Input {
+        u_ab: Reading::Good(u_ab),
+        u_zero: Reading::Invalid,
+        u_negative: Reading::Invalid,
+        i_high: Reading::Invalid,
+        i_bus: Reading::Invalid,
+        i_coupler: Reading::Invalid,
+        contacts: Contacts(BREAKER | contacts),
+        bcd: 0,
+        sensor: 0,
+    }
+}
+
+/// A raise begun after T1 = 20 low ticks.
+fn raised(slots: &[(usize, u32)]) -> Unit {
+    let mut unit = Unit::new(slots);
+    assert_eq!(unit.ticks(19, &volts(98.0, AUTOMATIC))[0], 0);
+    assert_eq!(unit.tick(&volts(98.0, AUTOMATIC))[0], 1);
+    unit
+}
+
+#[test]
+fn t6_of_100_takes_99_for_fast_and_not_100() {
+    for (held, fast) in [(99, 1), (100, 0)] {
+        let mut unit = raised(&[(36, 200), (38, 100)]);
+        unit.ticks(held, &volts(98.0, AUTOMATIC | CLOSED));
+        assert_eq!(
+            unit.tick(&volts(98.0, AUTOMATIC))[22],
+            fast,
+            "held for {held}"
+        );
+    }
+}
+
+#[test]
+fn a_button_held_from_the_first_tick_commands_nothing() {
+    let mut unit = Unit::new(&[]);
+    for _ in 0..100 {
+        assert_eq!(unit.tick(&volts(100.0, RAISE_BUTTON))[0], 0);
+    }
+    unit.tick(&volts(100.0, 0));
+    assert_eq!(unit.tick(&volts(100.0, RAISE_BUTTON))[0], 1);
+}
+
+#[test]
+fn t7_of_0_is_off_when_the_contact_closes() {
+    for (t7, on) in [(0, 0), (1, 1)] {
+        let mut unit = raised(&[(39, t7)]);
+        assert_eq!(unit.tick(&volts(98.0, AUTOMATIC))[0], 1);
+        assert_eq!(unit.tick(&volts(98.0, AUTOMATIC | CLOSED))[0], on);
+        assert_eq!(unit.tick(&volts(98.0, AUTOMATIC | CLOSED))[0], 0);
+    }
+}
+
+/// 0x42C83333 V is 100,099 mV, a millivolt below the band's edge; in floats it would be 100,100.
+#[test]
+fn a_reading_is_not_multiplied_in_floats() {
+    let mut unit = Unit::new(&[(19, 99_600), (23, 1_000)]);
+    assert_eq!(
+        unit.tick(&volts(f32::from_bits(0x42C8_3333), AUTOMATIC))[18],
+        0
+    );
+    assert_eq!(
+        unit.tick(&volts(f32::from_bits(0x42C8_3334), AUTOMATIC))[18],
+        1
+    );
+}
+
+#[test]
+fn tap_0_matches_no_empty_sliding_slot() {
+    let mut unit = raised(&[(38, 0)]);
+    unit.ticks(30, &volts(98.0, AUTOMATIC | CLOSED));
+    assert_eq!(unit.tick(&volts(100.0, AUTOMATIC))[24], 0);
+    let shown = unit.tick(&volts(100.0, AUTOMATIC | CLOSED));
+    assert_eq!((shown[3], shown[19], shown[24]), (0, 1, 0));
+}
+
+#[test]
+fn a_band_edge_is_outside() {
+    let mut unit = Unit::new(&[]);
+    assert_eq!(unit.tick(&volts(99.0, AUTOMATIC))[17], 1);
+    assert_eq!(unit.tick(&volts(101.0, AUTOMATIC))[18], 1);
+}
+
+/// U_comp 5.1 V, 5 A, I = -3 mA: the drop is -3 mV and not -4, so 98,997 mV comes to the edge and not past it.
+#[test]
+fn a_negative_drop_is_rounded_toward_zero() {
+    let mut unit = Unit::new(&[
+        (1, 1),
+        (3, 1),
+        (4, 2),
+        (24, 5_100),
+        (25, 5_000),
+        (26, 5_000),
+        (27, 500),
+    ]);
+    let mut input = volts(f32::from_bits(0x42C5_FE77), AUTOMATIC);
+    input.i_bus = Reading::Good(f32::from_bits(0x3A83_126F));
+    input.i_coupler = Reading::Good(f32::from_bits(0x3B83_126F));
+    assert_eq!(unit.tick(&input)[17], 1);
+    input.u_ab = Reading::Good(f32::from_bits(0x42C5_FE77 + 0x84));
+    assert_eq!(unit.tick(&input)[17], 0);
+}
+
+#[test]
+fn no_run_away_after_long_while_the_contact_is_closed() {
+    let mut unit = raised(&[(36, 20)]);
+    assert_eq!(unit.ticks(20, &volts(98.0, AUTOMATIC | CLOSED))[21], 0);
+    for _ in 0..50 {
+        let shown = unit.tick(&volts(98.0, AUTOMATIC | CLOSED));
+        assert_eq!((shown[19], shown[21], shown[24]), (0, 1, 0));
+    }
+}
