@@ -148,7 +148,7 @@ impl<'a> Picture<'a> {
         Series { label: READINGS[at].name.to_string(), colour, dashes, signal: &self.history.readings[at] }
     }
 
-    /// The bands and their middles; the labels are of the last one.
+    /// The bands and their middles.
     fn draw_bands(&mut self, bands: &[Band], scale: ValueScale) -> Vec<Label> {
         for band in bands {
             let (x, to) = (self.time.at(band.from), self.time.at(band.to));
@@ -157,7 +157,7 @@ impl<'a> Picture<'a> {
             let y = scale.at(band.middle);
             self.svg.line((x, y), (to, y), Pen { colour: BLUE, width: 1.2, dashes: "8 4" });
         }
-        bands.last().map_or(Vec::new(), |band| band.labels(scale))
+        band_labels(bands, scale)
     }
 
     /// The limits of the readings in a panel, where they are watched and the scale reaches them.
@@ -323,12 +323,23 @@ pub struct Band {
 }
 
 impl Band {
-    fn labels(&self, scale: ValueScale) -> Vec<Label> {
-        let edge = |volts: f64| Label { words: format!("band {} V", mark_text(volts)), colour: SKY, y: scale.at(volts) };
+    fn middle_label(&self, scale: ValueScale) -> Label {
         let words = format!("U_supp{} {} V", self.which + 1, mark_text(self.middle));
-        let middle = Label { words, colour: BLUE, y: scale.at(self.middle) };
-        vec![edge(self.middle + self.half), middle, edge(self.middle - self.half)]
+        Label { words, colour: BLUE, y: scale.at(self.middle) }
     }
+
+    fn edge_label(&self, scale: ValueScale, volts: f64) -> Label {
+        Label { words: format!("band {} V", mark_text(volts)), colour: SKY, y: scale.at(volts) }
+    }
+}
+
+/// The edges of the last band, and each U_supp once.
+fn band_labels(bands: &[Band], scale: ValueScale) -> Vec<Label> {
+    let Some(last) = bands.last() else { return Vec::new() };
+    let edges = [last.middle + last.half, last.middle - last.half].map(|volts| last.edge_label(scale, volts));
+    let first = |at: &usize| bands[..*at].iter().all(|band| band.which != bands[*at].which);
+    let middles = (0..bands.len()).filter(first).map(|at| bands[at].middle_label(scale));
+    edges.into_iter().chain(middles).collect()
 }
 
 /// The bands by the keys of U_supp. They are drawn only; what is low and high is the unit's word.

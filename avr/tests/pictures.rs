@@ -7,14 +7,14 @@ use std::time::Duration;
 use avr::inputs::with;
 use avr::outputs::{HIGH, LOW};
 use avr::picture::{bands, picture};
-use avr::play::Source;
+use avr::play::{Player, Source};
 use avr::progress::{line, Progress};
-use avr::run;
 use avr::unit::{start, Brought, Sample};
-use common::{defaults, Dice};
+use avr::{run, scenario, sheet};
+use common::{check_texts, defaults, file, Dice};
 
 /// A sheet in service with four different voltages to hold.
-fn sheet() -> Vec<u32> {
+fn four_voltages() -> Vec<u32> {
     let mut list = defaults(0);
     list[0] = 1;
     list[19..23].copy_from_slice(&[100_000, 95_000, 110_000, 120_000]);
@@ -29,7 +29,7 @@ fn tick(volts: f32, contacts: u32) -> Brought {
 
 #[test]
 fn the_band_that_is_drawn_is_the_one_the_unit_goes_by() {
-    let list = sheet();
+    let list = four_voltages();
     for keys in 0..8 {
         let contacts = with(0, 0, true) | keys << 16;
         let band = &bands(&vec![(1, contacts)], 1, &list)[0];
@@ -48,7 +48,7 @@ fn a_long_noisy_run_gives_a_small_picture() {
     let mut dice = Dice(5);
     let ticks: Vec<Brought> =
         (0..100_000).map(|_| tick(95.0 + dice.below(1000) as f32 / 100.0, 1 | dice.below(2) << 9)).collect();
-    let list = sheet();
+    let list = four_voltages();
     let unit = start(&list).expect("taken");
     let history = run::run(unit, Source::Recording(&ticks), &mut Progress::usual(), |_| ()).expect("a run");
     let text = picture(&history, &list, "<noise & \"quotes\">");
@@ -58,7 +58,7 @@ fn a_long_noisy_run_gives_a_small_picture() {
 
 #[test]
 fn a_run_of_one_tick_and_readings_of_every_kind_can_be_drawn() {
-    let list = sheet();
+    let list = four_voltages();
     for value in [f32::NAN, f32::INFINITY, -1.0, 0.0, 1e30] {
         for quality in [0, 1, 2] {
             let mut brought = tick(0.0, 1);
@@ -77,4 +77,55 @@ fn progress_is_a_line() {
     let mut progress = Progress::new(Duration::ZERO);
     progress.tick(1 << 14, 1 << 15);
     progress.end();
+}
+
+/// Everything at once.
+const CROWDED_SHEET: &str = "\
+XB1 = on\n\
+XB6 = BCD\n\
+XB7 = on\n\
+XB8 = on\n\
+XB9 = on\n\
+XB10 = on\n\
+XB11 = on\n\
+XB12 = on\n\
+XB13 = on\n\
+XB18 = on\n\
+U_supp2 = 104 V\n\
+U_set1 = 107 V\n\
+U_set2 = 92 V\n\
+U_set5 = 106 V\n\
+T1 = 5 s\n\
+T2 = 5 s\n\
+T9 = 1 s\n\
+T10 = 1 s\n\
+";
+
+const CROWDED: &str = "\
+seconds,U_AB,3U0,U2,I_high,I_bus,I_coupler,breaker,automatic,U_supp2,BCD,oil_cold,drive,drive_step\n\
+0,100,1,0.5,0.4,0.8,0.2,1,1,0,,0,ok,1.5\n\
+10,98,12,,1.5,1.4,0.3\n\
+20,98 held,2,7\n\
+30,invalid,,1,0.5\n\
+35,99,,,,0.05\n\
+50,,,,,0.9,,,,1\n\
+80,108,,,,,,,,,0x1a\n\
+90,90,,,,,,,,,20,1\n\
+100,101,,,,,,,,0\n\
+110,,,,,,,0\n\
+120,end\n\
+";
+
+#[test]
+fn a_crowded_picture_can_be_read() {
+    let list = sheet::read(&file(CROWDED_SHEET)).expect("a sheet").list;
+    let scenario = scenario::read(&file(CROWDED)).expect("a scenario");
+    let unit = start(&list).expect("taken");
+    let source = Source::Scenario(Player::new(&scenario));
+    let history = run::run(unit, source, &mut Progress::usual(), |_| ()).expect("a run");
+    let text = picture(&history, &list, "crowded");
+    check_texts("crowded", &text);
+    for words in ["U_supp1 100 V", "U_supp2 104 V", "I_set3 0.1 A", "trip: U2 over U_set4", "wrong BCD code", "in: oil_cold"] {
+        assert!(text.contains(&format!(">{words}</text>")), "{words}");
+    }
 }

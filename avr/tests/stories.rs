@@ -4,7 +4,7 @@ mod common;
 
 use std::fs;
 
-use common::{avr, err, examples, Folder};
+use common::{avr, between, check_texts, err, examples, Folder};
 
 const STORIES: [&str; 10] = [
     "acceleration",
@@ -26,12 +26,6 @@ fn read(story: &str, name: &str) -> String {
 
 fn path(story: &str, name: &str) -> String {
     examples().join(story).join(name).to_str().expect("a plain path").to_string()
-}
-
-/// What stands between two marks.
-fn between<'a>(text: &'a str, from: &str, to: &str) -> &'a str {
-    let rest = text.split_once(from).expect("the first mark").1;
-    rest.split_once(to).expect("the second mark").0
 }
 
 #[test]
@@ -78,41 +72,10 @@ fn each_story_is_told() {
     }
 }
 
-struct Box {
-    left: f64,
-    right: f64,
-    top: f64,
-    bottom: f64,
-    words: String,
-}
-
-/// The box of a `<text>` line.
-fn text_box(line: &str) -> Box {
-    let number = |name: &str| -> f64 { between(line, &format!(" {name}=\""), "\"").parse().expect("a number") };
-    let (x, y, size) = (number("x"), number("y"), number("font-size"));
-    let words = between(line, ">", "<").to_string();
-    let width = words.chars().count() as f64 * size * 0.55;
-    let left = match between(line, "text-anchor=\"", "\"") {
-        "start" => x,
-        "middle" => x - width / 2.0,
-        _ => x - width,
-    };
-    Box { left, right: left + width, top: y - size * 0.8, bottom: y + size * 0.1, words }
-}
-
 #[test]
 fn no_text_lies_on_another_or_outside_the_picture() {
     for story in STORIES {
-        let picture = read(story, "picture.svg");
-        let boxes: Vec<Box> = picture.lines().filter(|line| line.starts_with("<text")).map(text_box).collect();
-        assert!(boxes.len() > 20, "{story}");
-        for (at, a) in boxes.iter().enumerate() {
-            assert!(a.left >= 0.0 && a.right <= 1120.0, "{story}: {} is outside", a.words);
-            for b in &boxes[at + 1..] {
-                let apart = a.right <= b.left || b.right <= a.left || a.bottom <= b.top || b.bottom <= a.top;
-                assert!(apart, "{story}: {} lies on {}", a.words, b.words);
-            }
-        }
+        check_texts(story, &read(story, "picture.svg"));
     }
 }
 

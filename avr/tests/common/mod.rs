@@ -86,3 +86,44 @@ pub fn err(output: &Output) -> String {
 pub fn examples() -> PathBuf {
     Path::new(env!("CARGO_MANIFEST_DIR")).join("../examples")
 }
+
+/// What stands between two marks.
+pub fn between<'a>(text: &'a str, from: &str, to: &str) -> &'a str {
+    let rest = text.split_once(from).expect("the first mark").1;
+    rest.split_once(to).expect("the second mark").0
+}
+
+struct Place {
+    left: f64,
+    right: f64,
+    top: f64,
+    bottom: f64,
+    words: String,
+}
+
+/// The box of a `<text>` line.
+fn text_box(line: &str) -> Place {
+    let number = |name: &str| -> f64 { between(line, &format!(" {name}=\""), "\"").parse().expect("a number") };
+    let (x, y, size) = (number("x"), number("y"), number("font-size"));
+    let words = between(line, ">", "<").to_string();
+    let width = words.chars().count() as f64 * size * 0.55;
+    let left = match between(line, "text-anchor=\"", "\"") {
+        "start" => x,
+        "middle" => x - width / 2.0,
+        _ => x - width,
+    };
+    Place { left, right: left + width, top: y - size * 0.8, bottom: y + size * 0.1, words }
+}
+
+/// No text of a picture lies on another or outside.
+pub fn check_texts(name: &str, picture: &str) {
+    let places: Vec<Place> = picture.lines().filter(|line| line.starts_with("<text")).map(text_box).collect();
+    assert!(places.len() > 20, "{name}");
+    for (at, a) in places.iter().enumerate() {
+        assert!(a.left >= 0.0 && a.right <= 1120.0, "{name}: {} is outside", a.words);
+        for b in &places[at + 1..] {
+            let apart = a.right <= b.left || b.right <= a.left || a.bottom <= b.top || b.bottom <= a.top;
+            assert!(apart, "{name}: {} lies on {}", a.words, b.words);
+        }
+    }
+}
