@@ -19,7 +19,7 @@ use Rattle.command.specs.declared.Wait.{Wait}
 use Rattle.command.specs.declared.Wait.the-variants.{Idle, For}
 use Rattle.image.specs.declared.DriveImage.{DriveImage}
 use Rattle.image.specs.declared.WaitImage.{WaitImage}
-use Rattle.image.specs.Numbers.{bitOf, directionNumber, directionOf, wayNumber, wayOf, faultNumber, faultOf, moveNumber, driveImage, driveOf, isDrive, waitImage, waitOf, isWait}
+use Rattle.image.specs.Numbers.{bitOf, isBit, directionNumber, directionOf, wayNumber, isWay, wayOf, faultNumber, isFault, faultOf, moveNumber, driveImage, driveOf, isDrive, waitImage, waitOf, isWait}
 
 pub first : (a b : Bool) → (a && b) ≡ true → a ≡ true
 first true b p = refl
@@ -34,11 +34,11 @@ pub bit-back : (b : Bool) → eqb (bitOf b) 1 ≡ b
 bit-back true = refl
 bit-back false = refl
 
-pub bit-is : (b : Bool) → leb (bitOf b) 1 ≡ true
+pub bit-is : (b : Bool) → isBit (bitOf b) ≡ true
 bit-is true = refl
 bit-is false = refl
 
-pub bit-same : (n : ℕ) → leb n 1 ≡ true → bitOf (eqb n 1) ≡ n
+pub bit-same : (n : ℕ) → isBit n ≡ true → bitOf (eqb n 1) ≡ n
 bit-same zero p = refl
 bit-same (suc zero) p = refl
 bit-same (suc (suc n)) p = absurd (omega (arith, leb-true (suc (suc n)) 1 p))
@@ -62,12 +62,12 @@ way-back Neither = refl
 way-back (To Raise) = refl
 way-back (To Lower) = refl
 
-pub way-is : (w : Way) → leb (wayNumber w) 2 ≡ true
+pub way-is : (w : Way) → isWay (wayNumber w) ≡ true
 way-is Neither = refl
 way-is (To Raise) = refl
 way-is (To Lower) = refl
 
-pub way-same : (n : ℕ) → leb n 2 ≡ true → wayNumber (wayOf n) ≡ n
+pub way-same : (n : ℕ) → isWay n ≡ true → wayNumber (wayOf n) ≡ n
 unfolding wayOf choose
 way-same zero p = refl
 way-same (suc zero) p = refl
@@ -83,14 +83,14 @@ fault-back NotStarted = refl
 fault-back Long = refl
 fault-back Fast = refl
 
-pub fault-is : (f : Fault) → leb (faultNumber f) 4 ≡ true
+pub fault-is : (f : Fault) → isFault (faultNumber f) ≡ true
 fault-is NoFault = refl
 fault-is RunAway = refl
 fault-is NotStarted = refl
 fault-is Long = refl
 fault-is Fast = refl
 
-pub fault-same : (n : ℕ) → leb n 4 ≡ true → faultNumber (faultOf n) ≡ n
+pub fault-same : (n : ℕ) → isFault n ≡ true → faultNumber (faultOf n) ≡ n
 unfolding faultOf choose
 fault-same zero p = refl
 fault-same (suc zero) p = refl

@@ -4,7 +4,6 @@ use mathlib.Core.Path.{_≡_, refl, sym, ap, _∙_}
 use mathlib.Core.Bool.{Bool, true, false, _&&_}
 use mathlib.Core.List.{List}
 use Prim.Native.Nat.{ℕ}
-use lib.Dec.{leb, eqb}
 use lib.ListN.{length}
 use Rattle.common.specs.Choice.{choose}
 use Rattle.common.proofs.Cases.{yes, no}
@@ -15,7 +14,7 @@ use Rattle.image.specs.declared.FromImage.{FromImage}
 use Rattle.image.specs.declared.DriveImage.{DriveImage}
 use Rattle.image.specs.declared.WaitImage.{WaitImage}
 use Rattle.image.specs.declared.places.OrganNumbers.{OrganNumbers}
-use Rattle.image.specs.Numbers.{bitOf, wayNumber, faultNumber, driveImage, isDrive, waitImage, isWait}
+use Rattle.image.specs.Numbers.{bitOf, isBit, wayNumber, isWay, faultNumber, isFault, driveImage, isDrive, waitImage, isWait}
 use Rattle.image.specs.Places.{organNumbers, areMarks}
 use Rattle.image.specs.Images.{imageOf, isRecord, stateOf, takenOf, noneOf, recordOf}
 use Rattle.image.proofs.Cases.{first, second, bit-back, bit-is, bit-same, way-back, way-is, way-same, fault-back, fault-is, fault-same, drive-back, drive-is, drive-same, wait-back, wait-is, wait-same}
@@ -60,20 +59,20 @@ module _ (m : Image) (p : isRecord m ≡ true) where
   -- what the test says of each part
   abbrev Parts : Type 0
   Parts =
-      (areMarks (m .«organ_marks») ≡ true) × (isDrive (m .drive) ≡ true) × (leb (m .fault) 4 ≡ true) × (isWait (m .wait) ≡ true)
-      × (leb (m .repeat) 2 ≡ true) × (leb (m .last) 2 ≡ true) × (leb (m .«raise_button») 1 ≡ true) × (leb (m .«lower_button») 1 ≡ true)
+      (areMarks (m .«organ_marks») ≡ true) × (isDrive (m .drive) ≡ true) × (isFault (m .fault) ≡ true) × (isWait (m .wait) ≡ true)
+      × (isWay (m .repeat) ≡ true) × (isWay (m .last) ≡ true) × (isBit (m .«raise_button») ≡ true) × (isBit (m .«lower_button») ≡ true)
 
   parts : Parts
   unfolding isRecord
   parts =
       let marks = areMarks (m .«organ_marks») in
       let drive = isDrive (m .drive) in
-      let fault = leb (m .fault) 4 in
+      let fault = isFault (m .fault) in
       let wait = isWait (m .wait) in
-      let repeat = leb (m .repeat) 2 in
-      let last = leb (m .last) 2 in
-      let raise = leb (m .«raise_button») 1 in
-      let lower = leb (m .«lower_button») 1 in
+      let repeat = isWay (m .repeat) in
+      let last = isWay (m .last) in
+      let raise = isBit (m .«raise_button») in
+      let lower = isBit (m .«lower_button») in
       let buttons : (raise && lower) ≡ true = second (marks && drive && fault && wait && (repeat && last)) (raise && lower) p in
       let rest : (marks && drive && fault && wait && (repeat && last)) ≡ true = first _ (raise && lower) p in
       let ways : (repeat && last) ≡ true = second (marks && drive && fault && wait) (repeat && last) rest in

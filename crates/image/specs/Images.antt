@@ -1,13 +1,13 @@
 -- The image of a record, and the record of an image. Definitions only.
 use Prim.Native.Nat.{ℕ}
 use mathlib.Core.Bool.{Bool, true, false, _&&_}
-use lib.Dec.{leb, eqb}
+use lib.Dec.{eqb}
 use Rattle.common.specs.Choice.{choose}
 use Rattle.record.specs.declared.Regulator.{Regulator}
 use Rattle.record.specs.Starting.{zerosOf}
 use Rattle.image.specs.declared.Image.{Image}
 use Rattle.image.specs.declared.FromImage.{FromImage}
-use Rattle.image.specs.Numbers.{bitOf, wayNumber, wayOf, faultNumber, faultOf, driveImage, driveOf, isDrive, waitImage, waitOf, isWait}
+use Rattle.image.specs.Numbers.{bitOf, isBit, wayNumber, isWay, wayOf, faultNumber, isFault, faultOf, driveImage, driveOf, isDrive, waitImage, waitOf, isWait}
 use Rattle.image.specs.Places.{organNumbers, organsOf, areMarks}
 
 unfoldable pub imageOf : Regulator → Image
@@ -31,9 +31,9 @@ imageOf r =
 -- each number that stands for a case is one of its numbers
 unfoldable pub isRecord : Image → Bool
 isRecord m =
-    areMarks (m .«organ_marks») && isDrive (m .drive) && leb (m .fault) 4 && isWait (m .wait)
-    && (leb (m .repeat) 2 && leb (m .last) 2)
-    && (leb (m .«raise_button») 1 && leb (m .«lower_button») 1)
+    areMarks (m .«organ_marks») && isDrive (m .drive) && isFault (m .fault) && isWait (m .wait)
+    && (isWay (m .repeat) && isWay (m .last))
+    && (isBit (m .«raise_button») && isBit (m .«lower_button»))
 
 unfoldable pub stateOf : Image → Regulator
 stateOf m =

@@ -22,6 +22,9 @@ abbrev pub bitOf : Bool → ℕ
 bitOf true = 1
 bitOf false = 0
 
+abbrev pub isBit : ℕ → Bool
+isBit n = leb n 1
+
 abbrev pub directionNumber : Direction → ℕ
 directionNumber Raise = 0
 directionNumber Lower = 1
@@ -34,6 +37,9 @@ wayNumber Neither = 0
 wayNumber (To Raise) = 1
 wayNumber (To Lower) = 2
 
+abbrev pub isWay : ℕ → Bool
+isWay n = leb n 2
+
 unfoldable pub wayOf : ℕ → Way
 wayOf n = choose (eqb n 0) Neither (choose (eqb n 1) (To Raise) (To Lower))
 
@@ -43,6 +49,9 @@ faultNumber RunAway = 1
 faultNumber NotStarted = 2
 faultNumber Long = 3
 faultNumber Fast = 4
+
+abbrev pub isFault : ℕ → Bool
+isFault n = leb n 4
 
 unfoldable pub faultOf : ℕ → Fault
 faultOf n =

@@ -2,12 +2,12 @@
 use Prim.Native.Nat.{ℕ}
 use mathlib.Core.Bool.{Bool}
 use mathlib.Core.List.{List, map}
-use lib.Dec.{leb, eqb}
+use lib.Dec.{eqb}
 use Rattle.common.specs.Places.{zip}
 use Rattle.organ.specs.declared.Organ.{Organ}
 use Rattle.organ.specs.Limits.{every}
 use Rattle.image.specs.declared.places.OrganNumbers.{OrganNumbers}
-use Rattle.image.specs.Numbers.{bitOf}
+use Rattle.image.specs.Numbers.{bitOf, isBit}
 
 unfoldable pub markOf : Organ → ℕ
 markOf o = bitOf (o .marked)
@@ -23,10 +23,6 @@ organOf mark count = record { marked = eqb mark 1; count = count }
 
 unfoldable pub organsOf : List ℕ → List ℕ → List Organ
 organsOf marks counts = zip organOf marks counts
-
--- 0 or 1
-abbrev pub isBit : ℕ → Bool
-isBit n = leb n 1
 
 unfoldable pub areMarks : List ℕ → Bool
 areMarks marks = every (map isBit marks)
