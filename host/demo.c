@@ -30,6 +30,22 @@ static void show(int tick, uint32_t answer, const avr_image *m, const avr_output
            o->fields[0], o->fields[17], m->drive.kind, m->drive.ticks, m->wait.ticks, m->counted_tap, m->operations);
 }
 
+/* What is refused is left as it was. */
+static int refusals(avr_image image, const avr_brought *in, const uint32_t *list) {
+    avr_outputs outputs;
+    image.operations = 1000000; /* outside a record's limits */
+    avr_image before = image;
+    uint32_t first = avr_tick(&image, in, &outputs);
+    printf("operations 1000000: answer %u, image %s\n", first, memcmp(&before, &image, sizeof image) ? "changed" : "as it was");
+    image.operations = 1, image.fault = 5; /* no record's image */
+    before = image;
+    uint32_t second = avr_tick(&image, in, &outputs);
+    printf("fault 5: answer %u, image %s\n", second, memcmp(&before, &image, sizeof image) ? "changed" : "as it was");
+    avr_started t = avr_start(list, 62);
+    printf("a list of 62: number %u, slot %u\n", t.number, t.slot);
+    return first == 4 && second == 4 && t.number == 1 ? 0 : 1;
+}
+
 int main(void) {
     uint32_t list[AVR_SLOTS];
     sheet(list);
@@ -64,15 +80,5 @@ int main(void) {
     show(++tick, answer, &image, &outputs);
     if (image.counted_tap != 11 || image.operations != 1) return 1;
 
-    image.operations = 1000000; /* outside a record's limits */
-    avr_image before = image;
-    answer = avr_tick(&image, &in, &outputs);
-    printf("operations 1000000: answer %u, image %s\n", answer, memcmp(&before, &image, sizeof image) ? "changed" : "as it was");
-    image.operations = 1, image.fault = 5; /* no record's image */
-    before = image;
-    uint32_t second = avr_tick(&image, &in, &outputs);
-    printf("fault 5: answer %u, image %s\n", second, memcmp(&before, &image, sizeof image) ? "changed" : "as it was");
-    avr_started t = avr_start(list, 62);
-    printf("a list of 62: number %u, slot %u\n", t.number, t.slot);
-    return answer == 4 && second == 4 && t.number == 1 ? 0 : 1;
+    return refusals(image, &in, list);
 }

@@ -40,48 +40,54 @@ fn compare(image: &Image, input: &Input, dice: &mut Dice, at: &str) -> Both {
     Both { answer, next }
 }
 
-/// Whole runs from a sheet, in a simulated substation.
+/// How often each output was on, and how many commands began.
+#[derive(Default)]
+struct Seen {
+    on: [u64; FIELDS],
+    commands: u64,
+}
+
+impl Seen {
+    fn add(&mut self, before: &Outputs, outputs: &Outputs) {
+        let command = |o: &Outputs| o.fields[0] | o.fields[1];
+        self.commands += u64::from(command(outputs) & !command(before));
+        for (sum, &field) in self.on.iter_mut().zip(&outputs.fields) {
+            *sum += u64::from(field != 0);
+        }
+    }
+}
+
+/// One run from a sheet, in a simulated substation.
+fn run(seed: u64, dice: &mut Dice, seen: &mut Seen) {
+    let mut scene = Scene::new(seed);
+    let started = start(&scene.record.settings);
+    assert_eq!(started.number, 0, "seed {seed}");
+    let mut image = started.image;
+    let mut outputs = Outputs {
+        fields: [0; FIELDS],
+    };
+    for t in 0..TICKS {
+        let before = outputs;
+        let (input, ticked) = scene.next_tick();
+        let answer = tick(&mut image, &brought(&input, dice), &mut outputs);
+        let at = || format!("seed {seed}, tick {t}: {input:?}");
+        assert_eq!(answer, ticked.refusal, "{}", at());
+        assert_eq!(outputs.fields, ticked.outputs, "{}", at());
+        assert_eq!(image, image_of(&ticked.next), "{}", at());
+        seen.add(&before, &outputs);
+    }
+}
+
 #[test]
 fn runs() {
     let mut dice = Dice::new(11);
-    let mut commands = 0u64;
-    let mut shown = [0u64; FIELDS];
+    let mut seen = Seen::default();
     for seed in 0..RUNS {
-        let mut scene = Scene::new(seed);
-        let started = start(&scene.record.settings);
-        assert_eq!(started.number, 0, "seed {seed}");
-        let mut image = started.image;
-        let mut outputs = Outputs {
-            fields: [0; FIELDS],
-        };
-        let mut on = 0;
-        for t in 0..TICKS {
-            let (input, ticked) = scene.next_tick();
-            let answer = tick(&mut image, &brought(&input, &mut dice), &mut outputs);
-            assert_eq!(answer, ticked.refusal, "seed {seed}, tick {t}: {input:?}");
-            assert_eq!(
-                outputs.fields, ticked.outputs,
-                "seed {seed}, tick {t}: {input:?}"
-            );
-            assert_eq!(
-                image,
-                image_of(&ticked.next),
-                "seed {seed}, tick {t}: {input:?}"
-            );
-            let command = outputs.fields[0] | outputs.fields[1];
-            commands += u64::from(command & !on);
-            on = command;
-            for (sum, &field) in shown.iter_mut().zip(&outputs.fields) {
-                *sum += u64::from(field != 0);
-            }
-        }
+        run(seed, &mut dice, &mut seen);
     }
-    println!("{} ticks, {commands} commands", RUNS * TICKS as u64);
-    println!("ticks with each output on: {shown:?}");
-    assert!(
-        shown.iter().all(|&n| n > 0),
-        "an output never came on: {shown:?}"
-    );
+    println!("{} ticks, {} commands", RUNS * TICKS as u64, seen.commands);
+    println!("ticks with each output on: {:?}", seen.on);
+    assert!(seen.on.iter().all(|&n| n > 0), "an output never came on");
 }
 
 /// Records within their limits and outside, and images of no record: one tick, and the next ones where it is accepted.
