@@ -150,6 +150,8 @@ AVR_ASSERT(offsetof(avr_brought, sensor) == 53, "avr_brought.sensor");
 AVR_ASSERT(sizeof(avr_outputs) == 112, "avr_outputs");
 AVR_ASSERT(sizeof(avr_started) == 368, "avr_started");
 AVR_ASSERT(offsetof(avr_started, image) == 8, "avr_started.image");
+AVR_ASSERT(sizeof(avr_ticked) == 476, "avr_ticked");
+AVR_ASSERT(offsetof(avr_ticked, next) == 116, "avr_ticked.next");
 
 #undef AVR_ASSERT
 

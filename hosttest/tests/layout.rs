@@ -2,7 +2,9 @@
 
 use std::mem::{align_of, offset_of, size_of};
 
-use hosttest::{start, Brought, DriveImage, Image, Outputs, Sample, Started, WaitImage, WORDS};
+use hosttest::{
+    start, Brought, DriveImage, Image, Outputs, Sample, Started, Ticked, WaitImage, WORDS,
+};
 use reference::dice::Dice;
 use reference::make_sheet;
 
@@ -63,6 +65,9 @@ fn answers() {
     assert_eq!((size_of::<Started>(), align_of::<Started>()), (368, 4));
     assert_eq!(offset_of!(Started, slot), 4);
     assert_eq!(offset_of!(Started, image), 8);
+    assert_eq!((size_of::<Ticked>(), align_of::<Ticked>()), (476, 4));
+    assert_eq!(offset_of!(Ticked, outputs), 4);
+    assert_eq!(offset_of!(Ticked, next), 116);
 }
 
 /// Each number of the image stands where the library writes it.

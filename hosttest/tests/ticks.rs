@@ -2,7 +2,7 @@
 
 use hosttest::convert::{brought, image_of, record_of};
 use hosttest::hostile::{senseless, tampered};
-use hosttest::{start, tick, Image, Outputs, FIELDS};
+use hosttest::{start, tick, tick_by_value, Image, Outputs, Ticked, FIELDS};
 use reference::dice::Dice;
 use reference::input::Input;
 use reference::scene::Scene;
@@ -23,7 +23,14 @@ fn compare(image: &Image, input: &Input, dice: &mut Dice, at: &str) -> Both {
     let mut outputs = Outputs {
         fields: [dice.bits(); FIELDS],
     };
-    let answer = tick(&mut lent, &brought(input, dice), &mut outputs);
+    let given = brought(input, dice);
+    let answer = tick(&mut lent, &given, &mut outputs);
+    let by_value = Ticked {
+        refusal: answer,
+        outputs,
+        next: lent,
+    };
+    assert_eq!(tick_by_value(*image, given), by_value, "{at}: by value");
     let (refusal, fields, next) = match record_of(image) {
         Some(record) => {
             let ticked = second(&record, input);
