@@ -12,31 +12,56 @@ use crate::help;
 const BAD_FILE: u8 = 1;
 const BAD_USAGE: u8 = 2;
 
-/// A subcommand: its words, its help, how many plain words it takes, its options, and what it does.
+/// A subcommand: its words, its help, how many plain words it takes, its options, those of which one must be given, and what it
+/// does.
 struct Command {
     path: &'static [&'static str],
     help: &'static str,
     plain: usize,
     options: &'static [&'static str],
+    needed: &'static [&'static [&'static str]],
     act: fn(&Words) -> Result<Said, Errors>,
 }
 
 const COMMANDS: [Command; 5] = [
-    Command { path: &["sheet", "check"], help: help::SHEET_CHECK, plain: 1, options: &["output"], act: commands::sheet_check },
-    Command { path: &["sheet", "show"], help: help::SHEET_SHOW, plain: 1, options: &[], act: commands::sheet_show },
+    Command {
+        path: &["sheet", "check"],
+        help: help::SHEET_CHECK,
+        plain: 1,
+        options: &["output"],
+        needed: &[],
+        act: commands::sheet_check,
+    },
+    Command {
+        path: &["sheet", "show"],
+        help: help::SHEET_SHOW,
+        plain: 1,
+        options: &[],
+        needed: &[],
+        act: commands::sheet_show,
+    },
     Command {
         path: &["scenario", "write"],
         help: help::SCENARIO_WRITE,
         plain: 1,
         options: &["output", "sheet"],
+        needed: &[&["output"]],
         act: commands::scenario_write,
     },
-    Command { path: &["scenario", "show"], help: help::SCENARIO_SHOW, plain: 1, options: &[], act: commands::scenario_show },
+    Command {
+        path: &["scenario", "show"],
+        help: help::SCENARIO_SHOW,
+        plain: 1,
+        options: &[],
+        needed: &[],
+        act: commands::scenario_show,
+    },
     Command {
         path: &["run"],
         help: help::RUN,
         plain: 0,
         options: &["sheet", "scenario", "recording", "table", "svg", "title"],
+        needed: &[&["sheet"], &["scenario", "recording"]],
         act: commands::run,
     },
 ];
@@ -54,18 +79,11 @@ impl Words {
         self.options.iter().find(|(known, _)| known == name).map(|(_, value)| value.as_str())
     }
 
-    pub fn needed(&self, name: &str) -> Result<&str, Errors> {
-        self.option(name).ok_or_else(|| self.misused(&format!("--{name} is missing")))
-    }
-
-    /// An error of the command line, which has no file.
-    pub fn misused(&self, words: &str) -> Errors {
-        vec![format!("{MISUSED}{words}")]
+    /// An option that the command line must have; `parse` has seen to it.
+    pub fn needed(&self, name: &str) -> &str {
+        self.option(name).unwrap_or_default()
     }
 }
-
-/// Marks an error of the command line.
-const MISUSED: &str = "usage: ";
 
 pub fn main(words: impl Iterator<Item = OsString>) -> ExitCode {
     let words: Result<Vec<String>, OsString> = words.map(OsString::into_string).collect();
@@ -115,16 +133,11 @@ fn perform(command: &Command, words: &[String]) -> ExitCode {
             said.notes.iter().for_each(|note| eprintln!("{note}"));
             status
         }
-        Err(errors) => fail(command, &errors),
+        Err(errors) => {
+            errors.iter().for_each(|error| eprintln!("avr: {error}"));
+            ExitCode::from(BAD_FILE)
+        }
     }
-}
-
-fn fail(command: &Command, errors: &[String]) -> ExitCode {
-    if let Some(words) = errors.first().and_then(|error| error.strip_prefix(MISUSED)) {
-        return misuse_of(command, words);
-    }
-    errors.iter().for_each(|error| eprintln!("avr: {error}"));
-    ExitCode::from(BAD_FILE)
 }
 
 fn parse(command: &Command, words: &[String]) -> Result<Words, String> {
@@ -143,10 +156,23 @@ fn parse(command: &Command, words: &[String]) -> Result<Words, String> {
             _ => parsed.plain.push(word.clone()),
         }
     }
-    match parsed.plain.len() == command.plain || parsed.help {
+    match parsed.help {
         true => Ok(parsed),
-        false => Err(format!("{} file names given, {} wanted", parsed.plain.len(), command.plain)),
+        false => complete(command, &parsed).map(|()| parsed),
     }
+}
+
+/// Whether all is there that the subcommand needs.
+fn complete(command: &Command, parsed: &Words) -> Result<(), String> {
+    if parsed.plain.len() != command.plain {
+        return Err(format!("{} file names given, {} wanted", parsed.plain.len(), command.plain));
+    }
+    for names in command.needed {
+        if names.iter().filter(|name| parsed.option(name).is_some()).count() != 1 {
+            return Err(format!("give --{}", names.join(" or --")));
+        }
+    }
+    Ok(())
 }
 
 fn take_option(command: &Command, parsed: &mut Words, name: &str, value: Option<String>) -> Result<(), String> {

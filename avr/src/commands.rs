@@ -38,7 +38,7 @@ pub fn sheet_show(words: &Words) -> Result<Said, Errors> {
 
 pub fn scenario_write(words: &Words) -> Result<Said, Errors> {
     let name = &words.plain[0];
-    let target = words.needed("output")?;
+    let target = words.needed("output");
     let scenario = scenario::read(&File::read(name)?)?;
     let mut inputs = vec![name.as_str()];
     let bytes = match words.option("sheet") {
@@ -79,8 +79,8 @@ pub fn scenario_show(words: &Words) -> Result<Said, Errors> {
 }
 
 pub fn run(words: &Words) -> Result<Said, Errors> {
-    let sheet_name = words.needed("sheet")?;
-    let (name, is_recording) = source_name(words)?;
+    let sheet_name = words.needed("sheet");
+    let (name, is_recording) = source_name(words);
     let sheet = sheet::read(&File::read(sheet_name)?)?;
     let file = File::read(name)?;
     let history = match is_recording {
@@ -103,12 +103,11 @@ pub fn run(words: &Words) -> Result<Said, Errors> {
     Ok(said)
 }
 
-/// The scenario or the recording; exactly one of them.
-fn source_name(words: &Words) -> Result<(&str, bool), Errors> {
-    match (words.option("scenario"), words.option("recording")) {
-        (Some(name), None) => Ok((name, false)),
-        (None, Some(name)) => Ok((name, true)),
-        _ => Err(words.misused("give one of --scenario and --recording")),
+/// The scenario or the recording, and whether it is the latter.
+fn source_name(words: &Words) -> (&str, bool) {
+    match words.option("recording") {
+        Some(name) => (name, true),
+        None => (words.needed("scenario"), false),
     }
 }
 

@@ -31,9 +31,7 @@ pub const SUPPLY_OFF: u32 = 2;
 pub const RESET: u32 = 12;
 pub const U_SUPP2: u32 = 16;
 
-/// Contacts that the unit looks at; it ignores the bits after them.
-pub const KNOWN: usize = 21;
-
+/// By bit; the unit ignores those after `lower`.
 pub const CONTACTS: [Contact; 32] = [
     contact("breaker", "breaker closed", "breaker open"),
     contact("switching", "switching contact closed", "switching contact open"),

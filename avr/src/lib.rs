@@ -2,6 +2,7 @@
 
 #![deny(unsafe_code)]
 
+pub mod band;
 pub mod cells;
 pub mod cli;
 pub mod columns;
@@ -12,6 +13,7 @@ pub mod file;
 pub mod help;
 pub mod inputs;
 pub mod lanes;
+pub mod limits;
 pub mod names;
 pub mod outputs;
 pub mod panel;

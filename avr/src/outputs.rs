@@ -12,7 +12,6 @@ pub const HIGH: usize = 18;
 pub const FAULTS: usize = 19;
 pub const SUPPLY_TRIP: usize = 23;
 pub const OPERATIONS: usize = 25;
-pub const AUTOMATIC: usize = 27;
 
 /// Short names, for the picture.
 pub const SHORT: [&str; FIELDS] = [

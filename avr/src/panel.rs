@@ -66,7 +66,7 @@ fn steps(time: TimeScale, scale: ValueScale, signal: &Signal<Sample>, wanted: im
         let to = signal.get(at + 1).map_or(time.ticks, |(next, _)| *next);
         match number(sample).filter(|_| wanted(sample)) {
             Some(value) => path.step(time.at(*from), time.at(to), scale.at(value)),
-            None => path.lift(),
+            None => path.flush(),
         }
     }
     path.end()
@@ -106,6 +106,7 @@ impl Path {
         }
     }
 
+    /// Ends the column; the next step begins anew.
     fn flush(&mut self) {
         if let Some(Column { to, low, high, last, .. }) = self.column.take() {
             if low < high {
@@ -113,10 +114,6 @@ impl Path {
             }
             self.text.push_str(&format!("H{}", short(to)));
         }
-    }
-
-    fn lift(&mut self) {
-        self.flush();
     }
 
     fn end(mut self) -> String {

@@ -1,13 +1,14 @@
 //! The picture: panels of readings, lanes of what is on, the tap, and a time axis.
 
-use crate::inputs::{is_on, READINGS, U_SUPP2};
+use crate::band::{self, Band};
+use crate::inputs::READINGS;
 use crate::lanes::{self, Group, Lane, Tip};
-use crate::names::{COMPENSATION, TABLE, U_SET5};
+use crate::limits::LIMITS;
+use crate::names::{COMPENSATION, TABLE};
 use crate::outputs::TAP;
 use crate::panel::{self, Label, Series};
-use crate::run::{History, Signal};
+use crate::run::History;
 use crate::scale::{mark_text, TimeScale, ValueScale};
-use crate::sheet;
 use crate::svg::*;
 use crate::value;
 
@@ -69,34 +70,6 @@ fn small_panels(history: &History) -> Vec<(&'static str, Vec<usize>)> {
 const COLOURS: [(&str, &str); 6] =
     [(BLACK, ""), (BLUE, ""), (VERMILLION, "7 3"), (BLUE, ""), (VERMILLION, "7 3"), (GREEN, "2 3")];
 
-/// A limit of a reading: its slot, and the slot that watches it; none for U_set5, which always counts.
-struct Limit {
-    reading: usize,
-    slot: usize,
-    watch: Option<usize>,
-}
-
-const LIMITS: [Limit; 8] = [
-    limit(0, U_SET5, None),
-    limit(3, 25, Some(6)),
-    limit(4, 26, Some(7)),
-    limit(4, 27, Some(8)),
-    limit(0, 28, Some(9)),
-    limit(0, 29, Some(10)),
-    limit(1, 30, Some(11)),
-    limit(2, 31, Some(12)),
-];
-
-const fn limit(reading: usize, slot: usize, watch: Option<usize>) -> Limit {
-    Limit { reading, slot, watch }
-}
-
-impl Limit {
-    fn is_watched(&self, list: &[u32]) -> bool {
-        self.watch.is_none_or(|slot| list[slot] == 1)
-    }
-}
-
 impl<'a> Picture<'a> {
     fn head(&mut self, title: &str) {
         let large = Style { size: 18.0, colour: INK, anchor: Anchor::Start };
@@ -129,7 +102,7 @@ impl<'a> Picture<'a> {
         if self.list[COMPENSATION] == 1 {
             series[0].label = "U_AB, measured".to_string();
         }
-        let bands = bands(&history.contacts, history.ticks, self.list);
+        let bands = band::bands(&history.contacts, history.ticks, self.list);
         let edges = bands.iter().flat_map(|band| [band.middle - band.half, band.middle + band.half]);
         let (low, high) =
             edges.fold(panel::extent(&series).unwrap_or((100.0, 100.0)), |(low, high), edge| (edge.min(low), edge.max(high)));
@@ -157,7 +130,7 @@ impl<'a> Picture<'a> {
             let y = scale.at(band.middle);
             self.svg.line((x, y), (to, y), Pen { colour: BLUE, width: 1.2, dashes: "8 4" });
         }
-        band_labels(bands, scale)
+        band::labels(bands, scale)
     }
 
     /// The limits of the readings in a panel, where they are watched and the scale reaches them.
@@ -311,57 +284,6 @@ fn bars(time: TimeScale, on: &[(u32, u32)]) -> Vec<Bar> {
         }
     }
     bars
-}
-
-/// The band that stands for a while.
-pub struct Band {
-    pub from: u32,
-    pub to: u32,
-    pub which: usize,
-    pub middle: f64,
-    pub half: f64,
-}
-
-impl Band {
-    fn middle_label(&self, scale: ValueScale) -> Label {
-        let words = format!("U_supp{} {} V", self.which + 1, mark_text(self.middle));
-        Label { words, colour: BLUE, y: scale.at(self.middle) }
-    }
-
-    fn edge_label(&self, scale: ValueScale, volts: f64) -> Label {
-        Label { words: format!("band {} V", mark_text(volts)), colour: SKY, y: scale.at(volts) }
-    }
-}
-
-/// The edges of the last band, and each U_supp once.
-fn band_labels(bands: &[Band], scale: ValueScale) -> Vec<Label> {
-    let Some(last) = bands.last() else { return Vec::new() };
-    let edges = [last.middle + last.half, last.middle - last.half].map(|volts| last.edge_label(scale, volts));
-    let first = |at: &usize| bands[..*at].iter().all(|band| band.which != bands[*at].which);
-    let middles = (0..bands.len()).filter(first).map(|at| bands[at].middle_label(scale));
-    edges.into_iter().chain(middles).collect()
-}
-
-/// The bands by the keys of U_supp. They are drawn only; what is low and high is the unit's word.
-pub fn bands(contacts: &Signal<u32>, ticks: u32, list: &[u32]) -> Vec<Band> {
-    let mut bands: Vec<Band> = Vec::new();
-    for (at, (from, now)) in contacts.iter().enumerate() {
-        let to = contacts.get(at + 1).map_or(ticks, |(next, _)| *next);
-        let which = key(*now);
-        match bands.last_mut() {
-            Some(last) if last.which == which => last.to = to,
-            _ => {
-                let (middle, half) = sheet::band(list, which);
-                bands.push(Band { from: *from, to, which, middle, half });
-            }
-        }
-    }
-    bands
-}
-
-/// Which U_supp the keys choose, from 0: the highest key that is on.
-fn key(contacts: u32) -> usize {
-    (0..3).rev().find(|key| is_on(contacts, U_SUPP2 + key)).map_or(0, |key| key as usize + 1)
 }
 
 /// The name of a series, at its last number.

@@ -1,6 +1,6 @@
 //! The unit: the proved library behind two safe functions. The only `unsafe` of the tool is here.
 //!
-//! The structs have the layout of `crates/image` and `crates/host`; the sizes are asserted below.
+//! The structs have the layout of `crates/image` and `crates/host`, and of `include/avr.h`; the sizes are asserted below.
 
 use std::mem::size_of;
 

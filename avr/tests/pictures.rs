@@ -4,9 +4,10 @@ mod common;
 
 use std::time::Duration;
 
+use avr::band::bands;
 use avr::inputs::with;
 use avr::outputs::{HIGH, LOW};
-use avr::picture::{bands, picture};
+use avr::picture::picture;
 use avr::play::{Player, Source};
 use avr::progress::{line, Progress};
 use avr::unit::{start, Brought, Sample};
