@@ -17,8 +17,10 @@ use Rattle.blocks.specs.declared.Blocks.{Blocks}
 use Rattle.record.specs.declared.Regulator.{Regulator}
 use Rattle.stages.specs.declared.accounting.Accounted.{Accounted}
 use Rattle.stages.specs.declared.assessing.Assessed.{Assessed}
+use Rattle.stages.specs.declared.commanding.Memory.{Memory}
 use Rattle.stages.specs.declared.commanding.Regulated.{Regulated}
 use Rattle.stages.specs.declared.observing.Observed.{Observed}
+use Rattle.stages.specs.declared.showing.Shown.{Shown}
 use Rattle.stages.specs.declared.supervising.Supervised.{Supervised}
 use Rattle.stages.specs.Observing.{observedOf}
 use Rattle.stages.specs.Protecting.{protectedOf}
@@ -49,37 +51,23 @@ module _ (r : Regulator) (i : Input) (c : Contacts) where
   unfolding sensedOf observedIn protectedIn assessedIn
   sense-made p q u = rw (← p, q, u)
 
-  pub live-made : {x : Sensed} {y : Acted} {outputs : List ℕ}
+  pub live-made : {x : Sensed} {y : Acted} {shown : Shown} {outputs : List ℕ} {next : Regulator}
       → x ≡ sensedOf r i c
       → y ≡ actedOf r c x
-      → outputs ≡ outputsOf (r .settings) (shownOf c x y)
-      → _≡_ {A = Ticked}
-      (record {
-        reply = record { refusal = 0; outputs = outputs };
-        next =
-            record {
-              settings = r .settings;
-              organs = x .organs .organs;
-              drive = y .regulated .drive;
-              latch = y .supervised .latch;
-              wait = y .regulated .wait;
-              repeat = y .regulated .repeat;
-              last = y .accounted .last;
-              «counted_tap» = y .accounted .tap;
-              operations = y .accounted .operations;
-              buttons = record { raise = c .«raise_button»; lower = c .«lower_button» };
-            };
-      })
-      (ranOf r i c)
-  unfolding ranOf endOf nextOf
-  live-made p q u = rw (← p, ← q, u)
+      → shown ≡ shownOf c x y
+      → outputs ≡ outputsOf (r .settings) shown
+      → next ≡ nextOf r c x y
+      → _≡_ {A = Ticked} (record { reply = record { refusal = 0; outputs = outputs }; next = next }) (ranOf r i c)
+  unfolding ranOf endOf
+  live-made p q s u n = rw (← p, ← q, ← s, u, n)
 
 module _ (r : Regulator) (c : Contacts) (x : Sensed) where
-  pub act-made : {v : Supervised} {b : Blocks} {g : Regulated} {a : Accounted}
+  pub act-made : {v : Supervised} {b : Blocks} {m : Memory} {g : Regulated} {a : Accounted}
       → v ≡ supervisedOf (r .settings) c (x .observed .position .tap) (r .drive) (r .latch) (r .last)
       → b ≡ blockedOf (r .settings) c (v .latch .fault) (x .observed .section) (x .assessed .level) (x .organs .trips) (x .observed .position .tap)
-      → g ≡ regulatedOf (r .settings) c (x .assessed) b (memoryOf r) (v .drive)
+      → m ≡ memoryOf r
+      → g ≡ regulatedOf (r .settings) c (x .assessed) b m (v .drive)
       → a ≡ accountedOf (r .settings) (v .ended) (r .last) (r .operations) (r .«counted_tap»)
       → _≡_ {A = Acted} (record { supervised = v; blocks = b; regulated = g; accounted = a }) (actedOf r c x)
   unfolding actedOf supervisedIn blockedIn regulatedIn accountedIn
-  act-made p q u w = rw (← p, ← q, u, w)
+  act-made p q m u w = rw (← p, ← q, ← m, u, w)

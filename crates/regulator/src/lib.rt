@@ -3,7 +3,7 @@ ghost use mathlib.Core.Path.{_≡_};
 ghost use mathlib.Core.List.{List};
 ghost use Rattle.record.specs.Limits.{withinOf};
 ghost use Rattle.regulator.specs.Lists.{listFrom, Kept};
-ghost use Rattle.regulator.specs.Ticks.{sensedOf, actedOf, ranOf, outOf, refusedOf, tickOf};
+ghost use Rattle.regulator.specs.Ticks.{sensedOf, memoryOf, actedOf, shownOf, nextOf, ranOf, outOf, refusedOf, tickOf};
 use blocks::Blocks;
 use command::Buttons;
 use input::Contacts;
@@ -65,6 +65,22 @@ fn sense(r: Regulator, i: Input, c: Contacts) -> Sensed
     }
 }
 
+// What rule 9 remembers.
+fn memory_of(r: Regulator) -> Memory
+    ensures { λ m. ⌜ m ≡ memoryOf r ⌝ }
+{
+    let drive = r.drive;
+    let wait = r.wait;
+    let repeat = r.repeat;
+    let buttons = r.buttons;
+    Memory {
+        drive: drive,
+        wait: wait,
+        repeat: repeat,
+        buttons: buttons,
+    }
+}
+
 // Rules 2 and 7 to 9.
 fn act(r: Regulator, c: Contacts, x: Sensed) -> Acted
     ensures { λ y. ⌜ y ≡ actedOf r c x ⌝ }
@@ -91,15 +107,7 @@ fn act(r: Regulator, c: Contacts, x: Sensed) -> Acted
         trips,
         position.tap,
     );
-    let wait = r.wait;
-    let repeat = r.repeat;
-    let buttons = r.buttons;
-    let m = Memory {
-        drive: drive,
-        wait: wait,
-        repeat: repeat,
-        buttons: buttons,
-    };
+    let m = memory_of(r);
     let followed = supervised.drive;
     let regulated = stages::commanding::regulate(&s, c, assessed, blocks, m, followed);
     let ended = supervised.ended;
@@ -112,18 +120,14 @@ fn act(r: Regulator, c: Contacts, x: Sensed) -> Acted
     }
 }
 
-// Rules 2 to 10, on a record in service.
-fn live(r: Regulator, i: Input, c: Contacts) -> Ticked
-    ensures { λ t. ⌜ t ≡ ranOf r i c ⌝ }
+// What the outputs show.
+fn shown_of(c: Contacts, x: Sensed, y: Acted) -> Shown
+    ensures { λ s. ⌜ s ≡ shownOf c x y ⌝ }
 {
-    let x = sense(r, i, c);
-    let y = act(r, c, x);
-    let settings = r.settings;
     let observed = x.observed;
     let position = observed.position;
-    let stepped = x.organs;
-    let organs = stepped.organs;
-    let trips = stepped.trips;
+    let organs = x.organs;
+    let trips = organs.trips;
     let assessed = x.assessed;
     let level = assessed.level;
     let supervised = y.supervised;
@@ -131,11 +135,8 @@ fn live(r: Regulator, i: Input, c: Contacts) -> Ticked
     let blocks = y.blocks;
     let regulated = y.regulated;
     let drive = regulated.drive;
-    let wait = regulated.wait;
-    let repeat = regulated.repeat;
     let accounted = y.accounted;
-    let last = accounted.last;
-    let shown = Shown {
+    Shown {
         automatic: c.automatic,
         section: observed.section,
         position: position,
@@ -147,28 +148,57 @@ fn live(r: Regulator, i: Input, c: Contacts) -> Ticked
         before: supervised.before,
         drive: drive,
         operations: accounted.operations,
-    };
-    let outputs = stages::showing::show(&settings, shown);
+    }
+}
+
+// The next record.
+fn next_of(r: Regulator, c: Contacts, x: Sensed, y: Acted) -> Regulator
+    ensures { λ n. ⌜ n ≡ nextOf r c x y ⌝ }
+{
+    let settings = r.settings;
+    let stepped = x.organs;
+    let organs = stepped.organs;
+    let supervised = y.supervised;
+    let latch = supervised.latch;
+    let regulated = y.regulated;
+    let drive = regulated.drive;
+    let wait = regulated.wait;
+    let repeat = regulated.repeat;
+    let accounted = y.accounted;
+    let last = accounted.last;
+    Regulator {
+        settings: settings,
+        organs: organs,
+        drive: drive,
+        latch: latch,
+        wait: wait,
+        repeat: repeat,
+        last: last,
+        counted_tap: accounted.tap,
+        operations: accounted.operations,
+        buttons: Buttons {
+            raise: c.raise_button,
+            lower: c.lower_button,
+        },
+    }
+}
+
+// Rules 2 to 10, on a record in service.
+fn live(r: Regulator, i: Input, c: Contacts) -> Ticked
+    ensures { λ t. ⌜ t ≡ ranOf r i c ⌝ }
+{
+    let s = r.settings;
+    let x = sense(r, i, c);
+    let y = act(r, c, x);
+    let shown = shown_of(c, x, y);
+    let outputs = stages::showing::show(&s, shown);
+    let next = next_of(r, c, x, y);
     Ticked {
         reply: Reply {
             refusal: 0,
             outputs: outputs,
         },
-        next: Regulator {
-            settings: settings,
-            organs: organs,
-            drive: drive,
-            latch: latch,
-            wait: wait,
-            repeat: repeat,
-            last: last,
-            counted_tap: accounted.tap,
-            operations: accounted.operations,
-            buttons: Buttons {
-                raise: c.raise_button,
-                lower: c.lower_button,
-            },
-        },
+        next: next,
     }
 }
 

@@ -9,6 +9,9 @@ supervise-requires c κs = search needs
 block-requires : tie.Need-block-requires
 block-requires c κs = search needs
 
+memory-of-requires : tie.Need-memory-of-requires
+memory-of-requires c κs = search needs
+
 regulate-requires : tie.Need-regulate-requires
 regulate-requires c κs = search needs
 
@@ -21,4 +24,10 @@ returns c = search act-made
 pub act-spec : {M : Type 1} → statement M
 act-spec =
     tie.close
-    (tie.spec supervise-requires block-requires regulate-requires account-requires returns)
+    (tie.spec
+    supervise-requires
+    block-requires
+    memory-of-requires
+    regulate-requires
+    account-requires
+    returns)
