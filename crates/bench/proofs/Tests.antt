@@ -1,13 +1,13 @@
 -- Tests that compute whether a tick is lasting, waiting or in force, and what they show.
 -- Assumes nothing.
 use mathlib.Core.Path.{_≡_}
-use mathlib.Core.Bool.{Bool, true, false, not, _&&_, true≢false}
+use mathlib.Core.Bool.{Bool, true, false, not, _&&_}
 use mathlib.Core.List.{List, [], _∷_}
 use Prim.Native.Nat.{ℕ}
 use borrow.Author.Tests.{eqb-true, not-true}
 use lib.Dec.{eqb}
 use Rattle.slots.specs.Slots.{slot, inService}
-use Rattle.sheet.proofs.Every.{and-left, and-right}
+use Rattle.common.proofs.Joined.{and-left, and-right}
 use Rattle.drive.specs.declared.Direction.{Direction}
 use Rattle.input.specs.Brought.{bitOf}
 use Rattle.regulator.specs.Lists.{Tick, output, sideField, blockField, All, Lasting, Waiting, InForce, delayIn, closed}

@@ -1,10 +1,8 @@
 -- Sheets and ticks for the worked values.
 use Prim.Native.Nat.{ℕ}
 use mathlib.Core.List.{List, [], _∷_}
-use lib.Ieee.{Float, binary32, ofBits}
-use lib.ListN.{replicate}
-use Rattle.measure.specs.declared.Reading.{Reading}
-use Rattle.measure.specs.declared.Reading.the-variants.{Good, Held, Invalid}
+use lib.Ieee.{binary32, ofBits}
+use Rattle.measure.specs.declared.Reading.the-variants.{Good, Invalid}
 use Rattle.input.specs.declared.Input.{Input}
 
 -- a sheet in service: all delays that a command goes by are 20 ticks, U_supp is 100 V, dU 2 V

@@ -1,16 +1,13 @@
 -- What a fault blocks.
 -- Assumes nothing.
-use mathlib.Core.Path.{_≡_, refl}
-use mathlib.Core.Bool.{Bool, true, false, _||_, true≢false}
+use mathlib.Core.Path.{_≡_}
+use mathlib.Core.Bool.{true, false, _||_}
 use mathlib.Core.List.{List}
 use Prim.Native.Nat.{ℕ}
+use Rattle.common.proofs.Joined.{or-left, or-right, or-true}
 use Rattle.input.specs.declared.Contacts.{Contacts}
 use Rattle.blocks.specs.declared.Found.{Found}
-use Rattle.blocks.specs.Blocked.{commonOf, automaticOf, manualOf, blocksOf}
-
-or-true : (b : Bool) → (b || true) ≡ true
-or-true true = refl
-or-true false = refl
+use Rattle.blocks.specs.Blocked.{commonOf, blocksOf}
 
 module _ (s : List ℕ) (c : Contacts) (f : Found) (e : f .fault ≡ true) where
   common : commonOf c (f .fault) ≡ true
@@ -26,14 +23,6 @@ module _ (s : List ℕ) (c : Contacts) (f : Found) (e : f .fault ≡ true) where
   pub fault-blocks-manual : blocksOf s c f .manual ≡ true
   unfolding blocksOf
   fault-blocks-manual = rw common
-
-or-left : (a b : Bool) → (a || b) ≡ false → a ≡ false
-or-left true b e = e
-or-left false b e = refl
-
-or-right : (a b : Bool) → (a || b) ≡ false → b ≡ false
-or-right true b e = absurd (true≢false e)
-or-right false b e = e
 
 -- where automatic is not blocked, there is no local drive and no fault
 module _ (s : List ℕ) (c : Contacts) (f : Found) (e : blocksOf s c f .automatic ≡ false) where

@@ -1,9 +1,9 @@
 -- The parts of a decision make it: each law is over plain values, as a function's branches have them, and `search` finds it.
 -- Assumes nothing.
-use mathlib.Core.Path.{_≡_, refl, sym, _∙_}
+use mathlib.Core.Path.{_≡_}
 use mathlib.Core.Bool.{Bool, true, false, not, _&&_, _||_}
 use mathlib.Core.List.{List}
-use Prim.Native.Nat.{ℕ, _+_, _≤_}
+use Prim.Native.Nat.{ℕ}
 use Rattle.common.proofs.Cases.{yes, no, cases}
 use Rattle.slots.specs.Slots.{slot, t1, t2, t3}
 use Rattle.drive.specs.declared.Direction.{Direction}

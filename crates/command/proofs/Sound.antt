@@ -4,18 +4,17 @@
 use mathlib.Core.Path.{_≡_, refl, sym, ap, _∙_}
 use mathlib.Core.Bool.{Bool, true, false, not, _&&_, _||_}
 use mathlib.Core.List.{List}
-use Prim.Native.Nat.{ℕ, _+_, _<_, _≤_}
+use Prim.Native.Nat.{ℕ, _<_}
 use native.Mathlib.Omega.{arith}
 use borrow.Author.Tests.{leb-false}
-use lib.Dec.{leb}
 use Rattle.common.specs.Choice.{choose}
 use Rattle.common.proofs.Cases.{yes, no, chosen}
+use Rattle.common.proofs.Joined.{or-left, or-right}
 use Rattle.drive.specs.declared.Direction.{Direction}
 use Rattle.drive.specs.declared.Direction.the-variants.{Raise, Lower}
 use Rattle.drive.specs.declared.Way.{Way}
 use Rattle.drive.specs.declared.Way.the-variants.{Neither, To}
 use Rattle.drive.specs.Ways.{raises, lowers}
-use Rattle.command.specs.declared.Wait.{Wait}
 use Rattle.command.specs.declared.Wait.the-variants.{Idle, For}
 use Rattle.command.specs.declared.Situation.{Situation}
 use Rattle.command.specs.declared.Decided.{Decided}
@@ -46,14 +45,6 @@ pub record Sound (s : List ℕ) (x : Situation) (o : Decided) : Type 0 where
   pub begins : (d : Direction) → o .command ≡ To d → Begun x d
 
 -- tests joined
-or-left : (a b : Bool) → (a || b) ≡ false → a ≡ false
-or-left true b e = e
-or-left false b e = refl
-
-or-right : (a b : Bool) → (a || b) ≡ false → b ≡ false
-or-right true b e = let z : _≡_ {A = Bool} true false = e in cc
-or-right false b e = e
-
 not-both : (u v a b c : Bool) → u ≡ true → v ≡ false → (u && not a && not b || v && not a && not c) ≡ true → (a ≡ false) × (b ≡ false)
 not-both true false true b c p q e = let z : _≡_ {A = Bool} false true = e in (sym z, cc)
 not-both true false false true c p q e = let z : _≡_ {A = Bool} false true = e in (refl, sym z)

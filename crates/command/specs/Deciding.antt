@@ -1,5 +1,4 @@
 -- Rule 9 of 01: the command that begins, and the wait. Definitions only.
-use mathlib.Core.Bool.{Bool}
 use mathlib.Core.List.{List}
 use Prim.Native.Nat.{ℕ}
 use Rattle.common.specs.Choice.{choose}

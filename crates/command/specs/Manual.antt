@@ -1,5 +1,5 @@
 -- Rule 9 of 01 in manual mode. Definitions only.
-use mathlib.Core.Bool.{Bool, not, _&&_, _||_}
+use mathlib.Core.Bool.{not, _&&_, _||_}
 use Rattle.common.specs.Choice.{choose}
 use Rattle.drive.specs.declared.Direction.the-variants.{Raise, Lower}
 use Rattle.drive.specs.declared.Way.{Way}

@@ -1,3 +1,5 @@
 pub mod Cases
 pub mod Done
 pub mod Fill
+pub mod Joined
+pub mod Places

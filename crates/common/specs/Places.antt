@@ -1,5 +1,6 @@
--- Lists that are made place by place.
+-- Lists that are made, or asked, place by place.
 use Prim.Native.Nat.{ℕ, zero, suc}
+use mathlib.Core.Bool.{Bool, true, _&&_}
 use mathlib.Core.List.{List, [], _∷_, _++_}
 
 -- the function at each place of two lists
@@ -12,3 +13,8 @@ zip f (x ∷ xs) (y ∷ ys) = f x y ∷ zip f xs ys
 unfoldable pub tab : {A : Type 0} → (ℕ → A) → ℕ → List A
 tab f zero = []
 tab f (suc n) = tab f n ++ (f n ∷ [])
+
+-- every answer of the list is yes
+unfoldable pub every : List Bool → Bool
+every [] = true
+every (b ∷ bs) = b && every bs

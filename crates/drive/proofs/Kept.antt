@@ -1,13 +1,14 @@
 -- A tick keeps the limits of the drive, and a fault that arises brings rest.
 -- Assumes nothing.
-use mathlib.Core.Path.{_≡_, refl, sym, _∙_}
-use mathlib.Core.Bool.{Bool, true, false, not, _&&_, _||_}
-use Prim.Native.Nat.{ℕ, _+_, _<_, _≤_}
+use mathlib.Core.Path.{_≡_, refl}
+use mathlib.Core.Bool.{Bool, true, false, _||_}
+use Prim.Native.Nat.{ℕ, _+_, _≤_}
 use native.Mathlib.Omega.{arith}
 use borrow.Author.Tests.{ltb-true, leb-true, le-leb}
-use lib.Dec.{ltb, leb, eqb}
+use lib.Dec.{eqb}
 use Rattle.common.specs.Choice.{choose}
-use Rattle.common.proofs.Cases.{no, either, and-false, chosen}
+use Rattle.common.proofs.Cases.{no, either, chosen}
+use Rattle.common.proofs.Joined.{and-false}
 use Rattle.drive.specs.Follow.{unmovedOf, faultyOf, endedOf, ownOf, restOf, askedOf, movingOf, supervisedOf, followOf, restsOf, withinOf}
 use Rattle.drive.specs.Latches.{isFault, laterOf, ageOf, latchedOf, latchWithin}
 use Rattle.drive.specs.declared.Direction.{Direction}

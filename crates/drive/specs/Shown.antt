@@ -1,6 +1,6 @@
 -- Rule 10 of 01: the command that is on, and which output shows a fault. Definitions only.
 use Prim.Native.Nat.{ℕ}
-use mathlib.Core.Bool.{Bool, true, false, _&&_}
+use mathlib.Core.Bool.{_&&_}
 use lib.Dec.{leb}
 use Rattle.common.specs.Choice.{choose}
 use Rattle.drive.specs.declared.Way.{Way}

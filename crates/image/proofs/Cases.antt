@@ -7,6 +7,7 @@ use native.Mathlib.Omega.{arith}
 use borrow.Author.Tests.{leb-true, eqb-true, ne-eqb}
 use lib.Dec.{leb, eqb}
 use Rattle.common.specs.Choice.{choose}
+use Rattle.common.proofs.Joined.{and-left, and-right}
 use Rattle.drive.specs.declared.Direction.{Direction}
 use Rattle.drive.specs.declared.Direction.the-variants.{Raise, Lower}
 use Rattle.drive.specs.declared.Way.{Way}
@@ -20,14 +21,6 @@ use Rattle.command.specs.declared.Wait.the-variants.{Idle, For}
 use Rattle.image.specs.declared.DriveImage.{DriveImage}
 use Rattle.image.specs.declared.WaitImage.{WaitImage}
 use Rattle.image.specs.Numbers.{bitOf, isBit, directionNumber, directionOf, wayNumber, isWay, wayOf, faultNumber, isFault, faultOf, moveNumber, driveImage, driveOf, isDrive, waitImage, waitOf, isWait}
-
-pub first : (a b : Bool) → (a && b) ≡ true → a ≡ true
-first true b p = refl
-first false b p = p
-
-pub second : (a b : Bool) → (a && b) ≡ true → b ≡ true
-second true b p = p
-second false b p = let z : _≡_ {A = Bool} false true = p in cc
 
 -- a flag
 pub bit-back : (b : Bool) → eqb (bitOf b) 1 ≡ b
@@ -123,13 +116,13 @@ driveAt k d n = record { kind = k; direction = d; ticks = n }
 -- at rest both other numbers are 0
 rest-zeros : (d n : ℕ) → isDrive (driveAt 0 d n) ≡ true → (d ≡ 0) × (n ≡ 0)
 rest-zeros d n p =
-    let q : (eqb d 0 && eqb n 0) ≡ true = second (leb d 1) (eqb d 0 && eqb n 0) p in
-    (eqb-true d 0 (first (eqb d 0) (eqb n 0) q), eqb-true n 0 (second (eqb d 0) (eqb n 0) q))
+    let q : (eqb d 0 && eqb n 0) ≡ true = and-right (leb d 1) (eqb d 0 && eqb n 0) p in
+    (eqb-true d 0 (and-left (eqb d 0) (eqb n 0) q), eqb-true n 0 (and-right (eqb d 0) (eqb n 0) q))
 
 drive-kinds : (k d n : ℕ) → isDrive (driveAt k d n) ≡ true → (k ≤ 3) × (leb d 1 ≡ true)
 drive-kinds k d n p =
-    let q : (leb k 3 && leb d 1) ≡ true = first (leb k 3 && leb d 1) (not (eqb k 0) || (eqb d 0 && eqb n 0)) p in
-    (leb-true k 3 (first (leb k 3) (leb d 1) q), second (leb k 3) (leb d 1) q)
+    let q : (leb k 3 && leb d 1) ≡ true = and-left (leb k 3 && leb d 1) (not (eqb k 0) || (eqb d 0 && eqb n 0)) p in
+    (leb-true k 3 (and-left (leb k 3) (leb d 1) q), and-right (leb k 3) (leb d 1) q)
 
 drive-at : (k d n : ℕ) → isDrive (driveAt k d n) ≡ true → driveImage (driveOf (driveAt k d n)) ≡ driveAt k d n
 unfolding driveOf driveImage choose
@@ -163,7 +156,7 @@ unfolding waitOf waitImage choose
 wait-at zero n p = rw (eqb-true n 0 p)
 wait-at (suc zero) n p = refl
 wait-at (suc (suc zero)) n p = refl
-wait-at (suc (suc (suc s))) n p = absurd (omega (arith, leb-true (suc (suc (suc s))) 2 (first (leb (suc (suc (suc s))) 2) _ p)))
+wait-at (suc (suc (suc s))) n p = absurd (omega (arith, leb-true (suc (suc (suc s))) 2 (and-left (leb (suc (suc (suc s))) 2) _ p)))
 
 pub wait-same : (m : WaitImage) → isWait m ≡ true → waitImage (waitOf m) ≡ m
 wait-same m p = wait-at (m .side) (m .ticks) p

@@ -1,21 +1,21 @@
 -- The organs in numbers and back, and the loops over them.
 -- Assumes nothing.
 use mathlib.Core.Path.{_≡_, refl, sym}
-use mathlib.Core.Bool.{Bool, true, false, _&&_}
+use mathlib.Core.Bool.{Bool, true, false}
 use mathlib.Core.List.{List, [], _∷_, map}
 use Prim.Native.Nat.{ℕ, _+_, _<_, _≤_}
 use native.Mathlib.Omega.{arith}
 use borrow.Author.Tests.{le-leb, lt-leb}
-use lib.Dec.{eqb}
 use lib.ListN.{length, getD}
 use Rattle.common.specs.Places.{zip}
 use Rattle.organ.specs.declared.Organ.{Organ}
-use Rattle.organ.specs.Limits.{every}
-use Rattle.organ.proofs.Places.{rest, rest-on, rest-no, rest-none}
+use Rattle.common.specs.Places.{every}
+use Rattle.common.proofs.Places.{rest, rest-on, rest-no, rest-none}
+use Rattle.common.proofs.Joined.{and-left, and-right}
 use Rattle.image.specs.declared.places.OrganNumbers.{OrganNumbers}
-use Rattle.image.specs.Numbers.{bitOf, isBit}
+use Rattle.image.specs.Numbers.{isBit}
 use Rattle.image.specs.Places.{markOf, countOf, organNumbers, organOf, organsOf, areMarks}
-use Rattle.image.proofs.Cases.{first, second, bit-back, bit-is, bit-same}
+use Rattle.image.proofs.Cases.{bit-back, bit-is, bit-same}
 
 -- ---- there and back
 
@@ -37,7 +37,7 @@ pub marks-same : (ms cs : List ℕ) → areMarks ms ≡ true → length ms ≡ l
 unfolding areMarks organNumbers organsOf every markOf organOf zip
 marks-same [] cs p h = refl
 marks-same (m ∷ ms) [] p h = absurd (omega arith)
-marks-same (m ∷ ms) (c ∷ cs) p h = rw (bit-same m (first (isBit m) _ p), marks-same ms cs (second (isBit m) _ p) (omega arith))
+marks-same (m ∷ ms) (c ∷ cs) p h = rw (bit-same m (and-left (isBit m) _ p), marks-same ms cs (and-right (isBit m) _ p) (omega arith))
 
 pub counts-same : (ms cs : List ℕ) → length ms ≡ length cs → organNumbers (organsOf ms cs) .counts ≡ cs
 unfolding organNumbers organsOf countOf organOf zip

@@ -2,11 +2,11 @@
 -- Assumes nothing.
 use mathlib.Core.Path.{_≡_, refl, sym, ap, _∙_}
 use mathlib.Core.Bool.{Bool, true, false, _&&_}
-use mathlib.Core.List.{List}
 use Prim.Native.Nat.{ℕ}
 use lib.ListN.{length}
 use Rattle.common.specs.Choice.{choose}
 use Rattle.common.proofs.Cases.{yes, no}
+use Rattle.common.proofs.Joined.{and-left, and-right}
 use Rattle.record.specs.declared.Regulator.{Regulator}
 use Rattle.record.specs.Starting.{zerosOf}
 use Rattle.image.specs.declared.Image.{Image}
@@ -16,8 +16,8 @@ use Rattle.image.specs.declared.WaitImage.{WaitImage}
 use Rattle.image.specs.declared.places.OrganNumbers.{OrganNumbers}
 use Rattle.image.specs.Numbers.{bitOf, isBit, wayNumber, isWay, faultNumber, isFault, driveImage, isDrive, waitImage, isWait}
 use Rattle.image.specs.Places.{organNumbers, areMarks}
-use Rattle.image.specs.Images.{imageOf, isRecord, stateOf, takenOf, noneOf, recordOf}
-use Rattle.image.proofs.Cases.{first, second, bit-back, bit-is, bit-same, way-back, way-is, way-same, fault-back, fault-is, fault-same, drive-back, drive-is, drive-same, wait-back, wait-is, wait-same}
+use Rattle.image.specs.Images.{imageOf, isRecord, stateOf, takenOf, recordOf}
+use Rattle.image.proofs.Cases.{bit-back, bit-is, bit-same, way-back, way-is, way-same, fault-back, fault-is, fault-same, drive-back, drive-is, drive-same, wait-back, wait-is, wait-same}
 use Rattle.image.proofs.Organs.{organs-back, organs-are, marks-same, counts-same}
 
 -- ---- from the record
@@ -73,20 +73,20 @@ module _ (m : Image) (p : isRecord m ≡ true) where
       let last = isWay (m .last) in
       let raise = isBit (m .«raise_button») in
       let lower = isBit (m .«lower_button») in
-      let buttons : (raise && lower) ≡ true = second (marks && drive && fault && wait && (repeat && last)) (raise && lower) p in
-      let rest : (marks && drive && fault && wait && (repeat && last)) ≡ true = first _ (raise && lower) p in
-      let ways : (repeat && last) ≡ true = second (marks && drive && fault && wait) (repeat && last) rest in
-      let waits : (marks && drive && fault && wait) ≡ true = first _ (repeat && last) rest in
-      let faults : (marks && drive && fault) ≡ true = first _ wait waits in
-      let drives : (marks && drive) ≡ true = first _ fault faults in (
-        first marks drive drives,
-        second marks drive drives,
-        second (marks && drive) fault faults,
-        second (marks && drive && fault) wait waits,
-        first repeat last ways,
-        second repeat last ways,
-        first raise lower buttons,
-        second raise lower buttons,
+      let buttons : (raise && lower) ≡ true = and-right (marks && drive && fault && wait && (repeat && last)) (raise && lower) p in
+      let rest : (marks && drive && fault && wait && (repeat && last)) ≡ true = and-left _ (raise && lower) p in
+      let ways : (repeat && last) ≡ true = and-right (marks && drive && fault && wait) (repeat && last) rest in
+      let waits : (marks && drive && fault && wait) ≡ true = and-left _ (repeat && last) rest in
+      let faults : (marks && drive && fault) ≡ true = and-left _ wait waits in
+      let drives : (marks && drive) ≡ true = and-left _ fault faults in (
+        and-left marks drive drives,
+        and-right marks drive drives,
+        and-right (marks && drive) fault faults,
+        and-right (marks && drive && fault) wait waits,
+        and-left repeat last ways,
+        and-right repeat last ways,
+        and-left raise lower buttons,
+        and-right raise lower buttons,
       )
 
   pub image-same : length (m .«organ_marks») ≡ length (m .«organ_counts») → imageOf (stateOf m) ≡ m

@@ -1,5 +1,4 @@
 -- The image of a record, and the record of an image. Definitions only.
-use Prim.Native.Nat.{ℕ}
 use mathlib.Core.Bool.{Bool, true, false, _&&_}
 use lib.Dec.{eqb}
 use Rattle.common.specs.Choice.{choose}

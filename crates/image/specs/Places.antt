@@ -5,7 +5,7 @@ use mathlib.Core.List.{List, map}
 use lib.Dec.{eqb}
 use Rattle.common.specs.Places.{zip}
 use Rattle.organ.specs.declared.Organ.{Organ}
-use Rattle.organ.specs.Limits.{every}
+use Rattle.common.specs.Places.{every}
 use Rattle.image.specs.declared.places.OrganNumbers.{OrganNumbers}
 use Rattle.image.specs.Numbers.{bitOf, isBit}
 

@@ -1,7 +1,7 @@
 -- The limits of the organs are kept, at every delay, and seven stay seven.
 -- Assumes nothing.
 use mathlib.Core.Path.{_≡_, refl}
-use mathlib.Core.Bool.{Bool, true, false, _&&_, _||_}
+use mathlib.Core.Bool.{Bool, true, false, _||_}
 use mathlib.Core.List.{List, [], _∷_, map}
 use Prim.Native.Nat.{ℕ, zero, suc, _≤_, _<_}
 use native.Mathlib.Nat.{le-of-suc-le-suc, not-suc-le-zero}
@@ -10,23 +10,16 @@ use borrow.Author.Tests.{ltb-true, eqb-true, le-leb}
 use lib.Dec.{ltb, leb, eqb}
 use lib.ListN.{length, getD, replicate}
 use Rattle.common.specs.Choice.{choose}
-use Rattle.common.specs.Places.{zip}
+use Rattle.common.specs.Places.{zip, every}
 use Rattle.common.proofs.Cases.{chosen}
+use Rattle.common.proofs.Joined.{and-left, and-right}
+use Rattle.common.proofs.Places.{length-zip}
 use Rattle.organ.specs.declared.Organ.{Organ}
 use Rattle.organ.specs.declared.OrganInput.{OrganInput}
 use Rattle.organ.specs.declared.Organs.{Organs}
 use Rattle.organ.specs.Organs.{markOf, countOf, organOf, tripOf, allSteppedOf}
-use Rattle.organ.specs.Limits.{organWithin, organsWithin, every}
+use Rattle.organ.specs.Limits.{organWithin, organsWithin}
 use Rattle.organ.specs.Runs.{cleared}
-use Rattle.organ.proofs.Places.{length-zip}
-
-first : (a b : Bool) → (a && b) ≡ true → a ≡ true
-first true b p = refl
-first false b p = p
-
-second : (a b : Bool) → (a && b) ≡ true → b ≡ true
-second true b p = p
-second false b p = cc
 
 -- after a tick an organ is within its limits, whatever it was before
 held : (n d : ℕ) → countOf true n d ≤ d
@@ -61,9 +54,9 @@ pub within-at : (ds : List ℕ) (os : List Organ) (i : ℕ) (a : ℕ) (o : Organ
 unfolding organsWithin every zip
 within-at [] os i a o p q r = absurd (not-suc-le-zero p)
 within-at (d ∷ ds) [] i a o p q r = absurd (not-suc-le-zero q)
-within-at (d ∷ ds) (k ∷ os) zero a o p q r = first (organWithin d k) (every (zip organWithin ds os)) r
+within-at (d ∷ ds) (k ∷ os) zero a o p q r = and-left (organWithin d k) (every (zip organWithin ds os)) r
 within-at (d ∷ ds) (k ∷ os) (suc i) a o p q r =
-    within-at ds os i a o (le-of-suc-le-suc p) (le-of-suc-le-suc q) (second (organWithin d k) (every (zip organWithin ds os)) r)
+    within-at ds os i a o (le-of-suc-le-suc p) (le-of-suc-le-suc q) (and-right (organWithin d k) (every (zip organWithin ds os)) r)
 
 -- a cleared organ is within any
 pub cleared-within : (d : ℕ) → organWithin d cleared ≡ true
@@ -79,7 +72,7 @@ all-cleared-within (d ∷ ds) (suc n) = rw (cleared-within d) (all-cleared-withi
 -- an organ within its limits that is not marked has no count
 pub no-count : (d : ℕ) (o : Organ) → organWithin d o ≡ true → o .marked ≡ false → o .count ≡ 0
 unfolding organWithin
-no-count d o p q = eqb-true (o .count) 0 (rw q at (second (leb (o .count) d) (o .marked || eqb (o .count) 0) p))
+no-count d o p q = eqb-true (o .count) 0 (rw q at (and-right (leb (o .count) d) (o .marked || eqb (o .count) 0) p))
 
 -- seven stay seven
 module _ (os : List Organ) (xs : List OrganInput) (seven : length os ≡ 7) (brought : length xs ≡ 7) where

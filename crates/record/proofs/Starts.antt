@@ -1,24 +1,21 @@
 -- The record that a sheet gives, over plain values; a fresh record is within its limits.
 -- Assumes nothing.
 use mathlib.Core.Path.{_≡_, refl, sym, ap, _∙_, subst}
-use mathlib.Core.Bool.{Bool, true, false, _&&_}
+use mathlib.Core.Bool.{Bool, true, false}
 use mathlib.Core.List.{List}
 use mathlib.Core.Logic.{_↔_}
-use Prim.Native.Nat.{ℕ, _≤_}
+use Prim.Native.Nat.{ℕ}
 use native.Mathlib.Omega.{arith}
 use borrow.Author.Tests.{le-leb}
 use lib.Dec.{eqb}
-use Rattle.common.specs.Choice.{choose}
-use Rattle.common.proofs.Cases.{yes, no, cases}
-use Rattle.slots.specs.Slots.{slot, t8, nPos, nL, nR, nStart}
+use Rattle.common.proofs.Cases.{yes, no}
+use Rattle.slots.specs.Slots.{slot, t8, nPos, nStart}
 use Rattle.sheet.specs.declared.Answer.{Answer}
 use Rattle.sheet.specs.declared.Answer.the-variants.{Taken, WrongLength, OutOfRange, TapOrder}
 use Rattle.sheet.specs.declared.Sheet.{Sheet}
 use Rattle.sheet.specs.Settings.{Settings}
-use Rattle.sheet.specs.Sheet.{numberOf, isTaken, answerOf, zeros, sheetWith, sheetOf, passesOf, replyOf, returnedOf}
+use Rattle.sheet.specs.Sheet.{numberOf, isTaken, answerOf, sheetWith, sheetOf, passesOf, replyOf, returnedOf}
 use Rattle.sheet.proofs.Laws.{taken-pass, taps-range, nStart-most}
-use Rattle.organ.specs.Limits.{organsWithin}
-use Rattle.organ.specs.Runs.{cleared}
 use Rattle.organ.proofs.Within.{all-cleared-within}
 use Rattle.drive.specs.Follow as follow
 use Rattle.record.specs.declared.Regulator.{Regulator}

@@ -1,6 +1,6 @@
 -- The limits of a record (01, 'Limits of a record'). Definitions only.
 use Prim.Native.Nat.{ℕ, _+_}
-use mathlib.Core.Bool.{Bool, true, false, not, _&&_, _||_}
+use mathlib.Core.Bool.{Bool, not, _&&_, _||_}
 use mathlib.Core.List.{List, [], _∷_}
 use lib.Dec.{leb, eqb}
 use Rattle.slots.specs.Slots.{slot, t4, t5, t8, organDelays, nL, nR}

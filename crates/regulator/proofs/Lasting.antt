@@ -1,29 +1,21 @@
 -- A record within its limits has a next record within them.
 -- Assumes nothing.
-use mathlib.Core.Path.{_≡_, refl, sym, ap, _∙_, subst}
-use mathlib.Core.Bool.{Bool, true, false, not, _&&_, _||_}
+use mathlib.Core.Path.{_≡_, refl, sym, ap, _∙_}
+use mathlib.Core.Bool.{Bool, true, false, not, _||_}
 use mathlib.Core.List.{List, map}
-use mathlib.Core.Logic.{_⊎_, inl, inr}
-use Prim.Native.Nat.{ℕ, _+_, _<_, _≤_}
-use native.Mathlib.Nat.{le-trans}
+use Prim.Native.Nat.{ℕ, _≤_}
 use native.Mathlib.Omega.{arith}
-use borrow.Author.Tests.{le-leb, leb-true, lt-ltb, ltb-true}
-use lib.Dec.{leb, ltb, eqb}
+use borrow.Author.Tests.{le-leb, lt-ltb, ltb-true}
+use lib.Dec.{leb, eqb}
 use Rattle.common.specs.Choice.{choose}
-use Rattle.common.specs.Places.{zip}
 use Rattle.common.proofs.Cases.{chosen}
-use Rattle.slots.specs.Slots.{slot, t1, t2, t3, t4, t5, t8, nL, nR}
+use Rattle.slots.specs.Slots.{slot, t4, t5, t8}
 use Rattle.sheet.specs.Sheet.{passesOf}
-use Rattle.sheet.proofs.Every.{and-left, and-right}
-use Rattle.sheet.proofs.Laws.{t1-range, t2-range, t3-range, t4-range, t5-range}
+use Rattle.common.proofs.Joined.{and-five, or-true}
+use Rattle.sheet.proofs.Laws.{t1-range, t2-range, t3-range, t5-range}
 use Rattle.organ.specs.declared.OrganInput.{OrganInput}
-use Rattle.organ.specs.Limits.{organsWithin}
-use Rattle.organ.specs.Organs.{organOf}
-use Rattle.organ.proofs.Within.{all-step-within}
 use Rattle.drive.specs.declared.Direction.{Direction}
 use Rattle.drive.specs.declared.Drive.{Drive}
-use Rattle.drive.specs.declared.Drive.the-variants.{Resting, Asked, Moving}
-use Rattle.drive.specs.declared.Fault.{Fault}
 use Rattle.drive.specs.declared.Latch.{Latch}
 use Rattle.drive.specs.declared.Way.{Way}
 use Rattle.drive.specs.declared.Way.the-variants.{Neither, To}
@@ -31,34 +23,19 @@ use Rattle.drive.specs.declared.follow.Contact.{Contact}
 use Rattle.drive.specs.declared.follow.Followed.{Followed}
 use Rattle.drive.specs.Follow as follow
 use Rattle.drive.specs.Follow.{followOf, restsOf}
-use Rattle.drive.specs.Latches.{isFault, laterOf, resetOf, latchedOf, latchWithin}
+use Rattle.drive.specs.Latches.{isFault, laterOf, resetOf, latchWithin}
 use Rattle.drive.proofs.Kept as kept
-use Rattle.tap.specs.Counted.{countedOf}
-use Rattle.tap.proofs.Steps.{counted-kept}
 use Rattle.command.specs.declared.Decided.{Decided}
 use Rattle.command.specs.declared.Situation.{Situation}
 use Rattle.command.specs.declared.Wait.{Wait}
 use Rattle.command.specs.declared.Wait.the-variants.{Idle, For}
 use Rattle.command.specs.Automatic.{delayOf}
 use Rattle.command.proofs.Sound.{Sound}
-use Rattle.record.specs.Limits.{ticksOf, delaysOf, motionWithin, countsWithin, withinOf}
-use Rattle.record.specs.declared.Regulator.{Regulator}
-use Rattle.stages.specs.Accounting.{oneMoreOf, operationsOf, accountedOf}
+use Rattle.record.specs.Limits.{ticksOf, delaysOf, motionWithin, withinOf}
+use Rattle.stages.specs.Accounting.{oneMoreOf, operationsOf}
 use Rattle.stages.specs.Commanding.{askOf}
 use Rattle.stages.specs.Protecting.{organInputOf, organInputsOf}
 use Rattle.input.specs.declared.Readings.{Readings}
-
-or-true : (b : Bool) → (b || true) ≡ true
-or-true true = refl
-or-true false = refl
-
-pub five : (a b c d e : Bool) → (a && b && c && d && e) ≡ true → (a ≡ true) × (b ≡ true) × (c ≡ true) × (d ≡ true) × (e ≡ true)
-five true true true true true h = (refl, refl, refl, refl, refl)
-five true true true true false h = let z : _≡_ {A = Bool} false true = h in (refl, refl, refl, refl, cc)
-five true true true false e h = let z : _≡_ {A = Bool} false true = h in (refl, refl, refl, cc, cc)
-five true true false d e h = let z : _≡_ {A = Bool} false true = h in (refl, refl, cc, cc, cc)
-five true false c d e h = let z : _≡_ {A = Bool} false true = h in (refl, cc, cc, cc, cc)
-five false b c d e h = let z : _≡_ {A = Bool} false true = h in (cc, cc, cc, cc, cc)
 
 -- ---- the parts of a record within its limits
 
@@ -72,7 +49,7 @@ pub record Parts (s : List ℕ) (d : Drive) (w : Wait) (l : Latch) : Type 0 wher
 pub motion-parts : (s : List ℕ) (d : Drive) (w : Wait) (l : Latch) → motionWithin s d w l ≡ true → Parts s d w l
 unfolding motionWithin
 motion-parts s d w l e =
-    let h = five _ _ _ _ _ e in
+    let h = and-five _ _ _ _ _ e in
     record { ticks = h .0; rested = h .1; moves = h .2; stopped = h .3; latched = h .4 }
 
 pub parts-motion : (s : List ℕ) (d : Drive) (w : Wait) (l : Latch) → Parts s d w l → motionWithin s d w l ≡ true

@@ -1,12 +1,11 @@
 -- One-step laws of a drive with a switching contact: asked, moving and at rest again, on ticks with all else lasting.
 -- Assumes nothing.
-use mathlib.Core.Path.{_≡_, refl, sym, ap, _∙_, subst}
+use mathlib.Core.Path.{_≡_, refl, sym, ap, _∙_}
 use mathlib.Core.Bool.{Bool, true, false, _&&_}
 use Prim.Native.Nat.{ℕ}
 use Rattle.drive.specs.declared.Direction.{Direction}
 use Rattle.drive.specs.declared.Drive.{Drive}
 use Rattle.drive.specs.declared.Drive.the-variants.{Resting, Asked, Moving}
-use Rattle.drive.specs.declared.follow.Followed.{Followed}
 use Rattle.drive.specs.Follow.{followOf, restsOf}
 use Rattle.drive.specs.Latches.{isFault}
 use Rattle.drive.proofs.Serving as serving
@@ -18,7 +17,7 @@ use Rattle.stages.specs.Commanding.{askOf, situationOf}
 use Rattle.stages.specs.Supervising.{contactOf}
 use Rattle.regulator.specs.declared.Ticked.{Ticked}
 use Rattle.regulator.specs.Lists.{Lasting, closed}
-use Rattle.regulator.proofs.Shown.{supervisedAt, situationAt, decidedAt, driveAt, liveAt, live-drive}
+use Rattle.regulator.proofs.Shown.{supervisedAt, situationAt, live-drive}
 use Rattle.regulator.proofs.Steps.{tickAt, nextAt, contactAt, followed-is, no-fault-before, blocks-not-local, live-of}
 
 module _ (d : Direction) (rest : Bool) (g : Drive) (r : Regulator) (i : Input) (l : Lasting d (tickAt rest r i)) (e : r .drive ≡ g)

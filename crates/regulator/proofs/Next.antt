@@ -1,28 +1,23 @@
 -- The tick keeps a record within its limits, and leaves a refused one as it was.
 -- Assumes nothing.
-use mathlib.Core.Path.{_≡_, refl, sym, ap, _∙_, subst}
-use mathlib.Core.Bool.{Bool, true, false, not, _&&_, _||_}
-use mathlib.Core.List.{List, map}
-use Prim.Native.Nat.{ℕ, _+_, _<_, _≤_}
+use mathlib.Core.Path.{_≡_, refl, sym, ap, _∙_}
+use mathlib.Core.Bool.{Bool, true, false, _&&_, _||_}
+use Prim.Native.Nat.{_≤_}
 use native.Mathlib.Omega.{arith}
 use borrow.Author.Tests.{le-leb, leb-true}
 use lib.Dec.{leb, eqb}
-use Rattle.common.specs.Choice.{choose}
-use Rattle.common.specs.Places.{zip}
 use Rattle.common.proofs.Cases.{yes, no, chosen}
-use Rattle.slots.specs.Slots.{slot, inService, t4, t5, t8, nL, nR}
+use Rattle.slots.specs.Slots.{slot, inService, t4, nL, nR}
 use Rattle.sheet.specs.Sheet.{passesOf}
-use Rattle.sheet.proofs.Every.{and-left, and-right}
+use Rattle.common.proofs.Joined.{and-left, and-right, and-four}
 use Rattle.sheet.proofs.Laws.{t4-range}
 use Rattle.organ.specs.Limits.{organsWithin}
-use Rattle.organ.specs.Organs.{organOf}
 use Rattle.organ.proofs.Within.{all-step-within}
-use Rattle.drive.specs.declared.Direction.{Direction}
 use Rattle.drive.specs.declared.Way.{Way}
 use Rattle.drive.specs.declared.Way.the-variants.{Neither, To}
 use Rattle.drive.specs.declared.follow.Contact.{Contact}
 use Rattle.drive.specs.Follow.{restsOf}
-use Rattle.drive.specs.Latches.{isFault, latchedOf, resetOf}
+use Rattle.drive.specs.Latches.{isFault, latchedOf}
 use Rattle.drive.proofs.Kept as kept
 use Rattle.tap.proofs.Steps.{counted-kept}
 use Rattle.input.specs.declared.Contacts.{Contacts}
@@ -33,25 +28,17 @@ use Rattle.command.specs.declared.Decided.{Decided}
 use Rattle.command.specs.declared.Situation.{Situation}
 use Rattle.command.proofs.Sound.{Sound, decided-sound, modeBlocked}
 use Rattle.record.specs.Limits.{motionWithin, countsWithin, withinOf, delaysOf}
-use Rattle.record.specs.Starting.{freshOf}
 use Rattle.record.specs.declared.Regulator.{Regulator}
 use Rattle.record.proofs.Starts.{fresh-within}
-use Rattle.stages.specs.Accounting.{operationsOf, accountedOf}
-use Rattle.stages.specs.Commanding.{blockedOf, isMissing, askOf, situationOf, decisionOf, regulatedOf}
-use Rattle.stages.specs.Protecting.{organInputsOf, protectedOf}
+use Rattle.stages.specs.Accounting.{accountedOf}
+use Rattle.stages.specs.Commanding.{blockedOf, askOf, situationOf, decisionOf, regulatedOf}
+use Rattle.stages.specs.Protecting.{protectedOf}
 use Rattle.stages.specs.Supervising.{contactOf, clearedOf, followedOf, supervisedOf}
 use Rattle.stages.specs.declared.supervising.Supervised.{Supervised}
 use Rattle.regulator.specs.declared.Sensed.{Sensed}
 use Rattle.regulator.specs.declared.Ticked.{Ticked}
-use Rattle.regulator.specs.Ticks.{sensedOf, protectedIn, observedIn, supervisedIn, blockedIn, memoryOf, regulatedIn, accountedIn, actedOf, nextOf, endOf, ranOf, isOut, outOf, refusedOf, tickOf}
+use Rattle.regulator.specs.Ticks.{sensedOf, protectedIn, supervisedIn, blockedIn, memoryOf, regulatedIn, accountedIn, actedOf, nextOf, endOf, ranOf, isOut, outOf, refusedOf, tickOf}
 use Rattle.regulator.proofs.Lasting.{Parts, motion-parts, motion-kept, fault-rests, delays-are, operations-most}
-
--- the four parts of the counts
-four : (a b c d : Bool) → (a && b && c && d) ≡ true → (a ≡ true) × (b ≡ true) × (c ≡ true) × (d ≡ true)
-four a b c d h =
-    let g = and-left (a && b && c) d h in
-    let k = and-left (a && b) c g in
-    (and-left a b k, and-right a b k, and-right (a && b) c g, and-right (a && b && c) d h)
 
 module _ (r : Regulator) (h : withinOf r ≡ true) where
   pub pass : passesOf (r .settings) ≡ true
@@ -115,7 +102,7 @@ module _ (r : Regulator) (h : withinOf r ≡ true) where
     unfolding countsWithin protectedIn protectedOf accountedIn accountedOf
     next-counts =
         let p =
-        four (organsWithin (delaysOf (r .settings)) (r .organs)) (leb (slot (r .settings) nL) (r .«counted_tap»))
+        and-four (organsWithin (delaysOf (r .settings)) (r .organs)) (leb (slot (r .settings) nL) (r .«counted_tap»))
         (leb (r .«counted_tap») (slot (r .settings) nR)) (leb (r .operations) 999999) counts in
         let b = counted-kept (r .settings) (r .«counted_tap») (leb-true _ _ (p .1)) (leb-true _ _ (p .2)) (v .ended) in
         let o = operations-most (r .settings) (r .operations) (v .ended) (leb-true _ _ (p .3)) in

@@ -14,7 +14,7 @@ use Rattle.record.specs.Limits.{withinOf}
 use Rattle.common.specs.Choice.{choose}
 use Rattle.regulator.specs.Lists.{Tick, ticksFrom, All, Some, Begins, Lasting, Waiting, BeganAtZero, InForce, delayIn, longest, closed}
 use Rattle.regulator.proofs.Steps.{tickAt, nextAt, restAt, waitTo, Linked, accepted-is, accepted-within, settings-kept, within-kept, linked-kept}
-use Rattle.regulator.proofs.Waits.{Comes, Goes, begun-moves, force-least, force-most, wait-step, wait-or-zero, no-wait-is}
+use Rattle.regulator.proofs.Waits.{begun-moves, force-least, force-most, wait-step, wait-or-zero, no-wait-is}
 
 -- Lists of ticks.
 abbrev pub Open : Tick → Type 0

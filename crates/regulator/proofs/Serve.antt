@@ -9,7 +9,8 @@ use mathlib.Core.Bool.{Bool, true, false, true≢false, false≢true}
 use mathlib.Core.List.{List, [], _∷_, _++_}
 use mathlib.Core.Logic.{_⊎_, inl, inr, ⊎-elim}
 use lib.ListN.{length, length-append}
-use Rattle.slots.specs.Slots.{slot, t4, t5, t6}
+use Rattle.common.proofs.Joined.{split}
+use Rattle.slots.specs.Slots.{slot, t4, t5}
 use Rattle.drive.specs.declared.Direction.{Direction}
 use Rattle.drive.specs.declared.Direction.the-variants.{Raise, Lower}
 use Rattle.drive.specs.declared.Drive.the-variants.{Asked, Moving}
@@ -127,11 +128,7 @@ same-bool false true = inr false≢true
 same-bool false false = inl refl
 
 same-number : (m n : ℕ) → (m ≡ n) ⊎ (m ≡ n → ⊥)
-same-number m n = ⊎-elim (λ t. inl (eqb-true m n t)) (λ f. inr (eqb-false m n f)) (either (eqb m n))
-  where
-    either : (b : Bool) → (b ≡ true) ⊎ (b ≡ false)
-    either true = inl refl
-    either false = inr refl
+same-number m n = ⊎-elim (λ t. inl (eqb-true m n t)) (λ f. inr (eqb-false m n f)) (split (eqb m n))
 
 begins-decided : (side : Direction) (t : Tick) → Begins side t ⊎ (Begins side t → ⊥)
 begins-decided side t =

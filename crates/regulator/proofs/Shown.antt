@@ -1,8 +1,7 @@
 -- What a tick in service shows and leaves, field by field; and what each shows of the rules' own values.
 -- Assumes nothing.
-use mathlib.Core.Path.{_≡_, refl, sym, ap, _∙_}
-use mathlib.Core.Bool.{Bool, true, false, not, _&&_, _||_}
-use mathlib.Core.List.{List}
+use mathlib.Core.Path.{_≡_, refl}
+use mathlib.Core.Bool.{Bool, true, false, not}
 use Prim.Native.Nat.{ℕ}
 use native.Mathlib.Omega.{arith}
 use lib.Dec.{eqb}
@@ -14,12 +13,11 @@ use Rattle.drive.specs.declared.Direction.the-variants.{Raise, Lower}
 use Rattle.drive.specs.declared.Drive.{Drive}
 use Rattle.drive.specs.declared.Fault.{Fault}
 use Rattle.drive.specs.declared.Fault.the-variants.{NoFault, RunAway, NotStarted, Long, Fast}
-use Rattle.drive.specs.declared.Way.{Way}
-use Rattle.drive.specs.declared.Way.the-variants.{Neither, To}
+use Rattle.drive.specs.declared.Way.the-variants.{To}
 use Rattle.drive.specs.Follow.{restsOf}
 use Rattle.drive.specs.Latches.{isFault}
 use Rattle.drive.specs.Shown.{onOf, fieldOf}
-use Rattle.drive.specs.Ways.{raises, lowers, isTo}
+use Rattle.drive.specs.Ways.{isTo}
 use Rattle.input.specs.declared.Contacts.{Contacts}
 use Rattle.input.specs.declared.Input.{Input}
 use Rattle.input.specs.Brought.{contactsOf}

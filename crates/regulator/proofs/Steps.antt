@@ -1,51 +1,35 @@
 -- One-step laws: what a single tick does, as the claim about lists needs it.
 -- Assumes nothing.
-use mathlib.Core.Path.{_≡_, refl, sym, ap, _∙_, subst}
-use mathlib.Core.Bool.{Bool, true, false, not, _&&_, _||_, true≢false, false≢true}
-use mathlib.Core.List.{List}
-use mathlib.Core.Logic.{_⊎_, inl, inr, ⊎-elim}
-use Prim.Native.Nat.{ℕ, _+_, _≤_, _<_, max}
+use mathlib.Core.Path.{_≡_, refl, sym, ap, _∙_}
+use mathlib.Core.Bool.{Bool, true, false, true≢false}
+use Prim.Native.Nat.{ℕ}
 use native.Mathlib.Omega.{arith}
-use borrow.Author.Tests.{leb-true, leb-false, eqb-false, eq-eqb}
-use lib.Dec.{leb, eqb}
+use lib.Dec.{eqb}
 use Rattle.common.specs.Choice.{choose}
 use Rattle.common.proofs.Cases.{yes, no, chosen}
-use Rattle.slots.specs.Slots.{slot, inService, t1, t2, t3, t7}
-use Rattle.sheet.specs.Sheet.{passesOf}
-use Rattle.sheet.specs.Table.{rowOf, rowIn}
-use Rattle.sheet.proofs.Every.{and-left, and-right}
-use Rattle.sheet.proofs.Laws.{in-run, t1-range, t2-range, t3-range}
+use Rattle.slots.specs.Slots.{slot, inService, t7}
 use Rattle.drive.specs.declared.Direction.{Direction}
 use Rattle.drive.specs.declared.Direction.the-variants.{Raise, Lower}
-use Rattle.drive.specs.declared.Drive.{Drive}
-use Rattle.drive.specs.declared.Drive.the-variants.{Resting, Asked}
-use Rattle.drive.specs.declared.Way.{Way}
-use Rattle.drive.specs.declared.Way.the-variants.{Neither, To}
+use Rattle.drive.specs.declared.Way.the-variants.{To}
 use Rattle.drive.specs.declared.follow.Contact.{Contact}
-use Rattle.drive.specs.declared.follow.Followed.{Followed}
-use Rattle.drive.specs.Follow.{unmovedOf, followOf, restsOf}
+use Rattle.drive.specs.Follow.{followOf, restsOf}
 use Rattle.drive.specs.Latches.{isFault, latchedOf}
 use Rattle.drive.specs.Shown.{onOf}
-use Rattle.drive.specs.Ways.{isTo}
-use Rattle.drive.proofs.Serving.{rests-is, rest-silent, rest-open, rest-needs-open, later-none, one-way, is-to-self, is-to-is, is-to-neither}
+use Rattle.drive.proofs.Serving.{later-none, one-way}
 use Rattle.input.specs.declared.Input.{Input}
 use Rattle.blocks.proofs.Laws.{automatic-no-fault, automatic-not-local}
-use Rattle.command.specs.declared.Decided.{Decided}
-use Rattle.command.specs.declared.Wait.{Wait}
-use Rattle.command.specs.declared.Wait.the-variants.{Idle, For}
-use Rattle.command.specs.Automatic.{ticksOf, waitedOf, opposedOf, delayOf, waitOnOf}
-use Rattle.command.proofs.Sound.{Sound, decided-sound, decided-waits}
+use Rattle.command.specs.Automatic.{waitedOf, opposedOf}
 use Rattle.record.specs.declared.Regulator.{Regulator}
 use Rattle.record.specs.Limits.{withinOf}
 use Rattle.record.specs.Starting.{freshOf}
-use Rattle.stages.specs.Commanding.{blockedOf, sideOf, askOf, situationOf}
+use Rattle.stages.specs.Commanding.{blockedOf, sideOf}
 use Rattle.stages.specs.Showing as showing
 use Rattle.stages.specs.Supervising.{contactOf, clearedOf, followedOf, supervisedOf}
 use Rattle.regulator.specs.declared.Ticked.{Ticked}
-use Rattle.regulator.specs.Ticks.{supervisedIn, blockedIn, ranOf, isOut, outOf, refusedOf, tickOf}
-use Rattle.regulator.specs.Lists.{output, Tick, restAfter, commandField, blockField, sideField, modeField, Begins, Lasting, Waiting, NoWait, delayIn, longest}
-use Rattle.regulator.proofs.Next.{pass, tick-lasting}
-use Rattle.regulator.proofs.Shown.{contactsAt, sensedAt, supervisedAt, blocksAt, situationAt, decidedAt, driveAt, liveAt, onTo, levelTo, live-drive, live-wait, live-settings, live-accepted, live-on, live-moving, live-automatic, live-manual, live-opposed, live-level, live-run-away, live-not-started, live-long, live-fast, flag-on, flag-off, flag-rests, no-fault, no-field, level-side, side-level}
+use Rattle.regulator.specs.Ticks.{supervisedIn, blockedIn, isOut, outOf, refusedOf, tickOf}
+use Rattle.regulator.specs.Lists.{output, Tick, restAfter, blockField, sideField, Lasting}
+use Rattle.regulator.proofs.Next.{tick-lasting}
+use Rattle.regulator.proofs.Shown.{contactsAt, sensedAt, supervisedAt, blocksAt, driveAt, liveAt, live-drive, live-settings, live-accepted, live-on, live-moving, live-automatic, live-opposed, live-level, flag-on, flag-off, flag-rests, level-side}
 
 -- ---- a tick of a list
 

@@ -1,20 +1,20 @@
 -- One-step laws of rule 9: what begins a command, and how the wait goes on.
 -- Assumes nothing.
-use mathlib.Core.Path.{_≡_, refl, sym, ap, _∙_, subst}
-use mathlib.Core.Bool.{Bool, true, false, not, _&&_, _||_, true≢false, false≢true}
+use mathlib.Core.Path.{_≡_, refl, sym, ap, _∙_}
+use mathlib.Core.Bool.{Bool, true, false, false≢true}
 use mathlib.Core.List.{List}
 use mathlib.Core.Logic.{_⊎_, inl, inr, ⊎-elim}
-use Prim.Native.Nat.{ℕ, _+_, _≤_, _<_, max}
+use Prim.Native.Nat.{ℕ, _+_, _≤_, _<_}
 use native.Mathlib.Nat.{eq-zero-or-pos}
 use native.Mathlib.Omega.{arith}
 use borrow.Author.Tests.{leb-true, leb-false, eqb-false}
 use lib.Dec.{leb, eqb}
 use Rattle.common.specs.Choice.{choose}
 use Rattle.common.proofs.Cases.{yes, no, chosen}
-use Rattle.slots.specs.Slots.{slot, inService, t1, t2, t3, t7}
+use Rattle.slots.specs.Slots.{slot, inService, t7}
 use Rattle.sheet.specs.Sheet.{passesOf}
 use Rattle.sheet.specs.Table.{rowOf, rowIn}
-use Rattle.sheet.proofs.Every.{and-left, and-right}
+use Rattle.common.proofs.Joined.{split, and-left, and-right, or-left, or-right}
 use Rattle.sheet.proofs.Laws.{in-run, t1-range, t2-range, t3-range}
 use Rattle.drive.specs.declared.Direction.{Direction}
 use Rattle.drive.specs.declared.Direction.the-variants.{Raise, Lower}
@@ -23,33 +23,28 @@ use Rattle.drive.specs.declared.Drive.the-variants.{Resting, Asked}
 use Rattle.drive.specs.declared.Way.{Way}
 use Rattle.drive.specs.declared.Way.the-variants.{Neither, To}
 use Rattle.drive.specs.declared.follow.Followed.{Followed}
-use Rattle.drive.specs.Follow.{unmovedOf, followOf, restsOf}
-use Rattle.drive.specs.Latches.{isFault}
+use Rattle.drive.specs.Follow.{followOf, restsOf}
 use Rattle.drive.specs.Shown.{onOf}
 use Rattle.drive.specs.Ways.{isTo}
-use Rattle.drive.proofs.Serving.{rests-is, rest-silent, rest-open, rest-needs-open, is-to-self, is-to-is, is-to-neither}
+use Rattle.drive.proofs.Serving.{rest-silent, rest-open, rest-needs-open, is-to-self, is-to-is, is-to-neither}
 use Rattle.input.specs.declared.Input.{Input}
 use Rattle.command.specs.declared.Decided.{Decided}
 use Rattle.command.specs.declared.Wait.{Wait}
 use Rattle.command.specs.declared.Wait.the-variants.{Idle, For}
-use Rattle.command.specs.Automatic.{ticksOf, waitedOf, opposedOf, delayOf, waitOnOf}
-use Rattle.command.proofs.Sound.{Waits, decided-sound, decided-waits, modeBlocked}
+use Rattle.command.specs.Automatic.{ticksOf, waitedOf, delayOf, waitOnOf}
+use Rattle.command.proofs.Sound.{Waits, decided-sound, decided-waits}
 use Rattle.record.specs.declared.Regulator.{Regulator}
 use Rattle.record.specs.Limits.{withinOf}
 use Rattle.record.specs.Starting.{freshOf}
-use Rattle.stages.specs.Commanding.{sideOf, askOf, situationOf}
+use Rattle.stages.specs.Commanding.{askOf, situationOf}
 use Rattle.stages.specs.Showing as showing
 use Rattle.stages.specs.Supervising.{contactOf}
 use Rattle.regulator.specs.declared.Ticked.{Ticked}
 use Rattle.regulator.specs.Ticks.{isOut, outOf, tickOf}
-use Rattle.regulator.specs.Lists.{output, Tick, commandField, blockField, sideField, modeField, Begins, Lasting, Waiting, NoWait, delayIn, longest, closed}
+use Rattle.regulator.specs.Lists.{output, commandField, blockField, sideField, modeField, Begins, Waiting, NoWait, delayIn, longest, closed}
 use Rattle.regulator.proofs.Next.{pass}
-use Rattle.regulator.proofs.Shown.{contactsAt, sensedAt, supervisedAt, blocksAt, situationAt, decidedAt, driveAt, liveAt, onTo, levelTo, live-drive, live-wait, live-accepted, live-on, live-automatic, live-manual, live-opposed, live-level, live-run-away, live-not-started, live-long, live-fast, flag-on, flag-off, no-field, side-level}
+use Rattle.regulator.proofs.Shown.{contactsAt, supervisedAt, blocksAt, situationAt, decidedAt, liveAt, onTo, live-drive, live-wait, live-on, live-automatic, live-manual, live-opposed, live-level, live-run-away, live-not-started, live-long, live-fast, flag-on, no-field, side-level}
 use Rattle.regulator.proofs.Steps.{tickAt, nextAt, restAt, waitTo, Linked, live-is, out-is, accepted-is, accepted-within, linked-kept, contactAt, followed-is, no-fault-before, blocks-no-fault, blocks-not-local, Live, live-of}
-
-split : (b : Bool) → (b ≡ true) ⊎ (b ≡ false)
-split true = inl refl
-split false = inr refl
 
 -- ---- a command that begins
 
@@ -222,14 +217,6 @@ module _ (d : Direction) (rest : Bool) (r : Regulator) (i : Input) (k : Linked r
       (split (leb (delayIn d r i) (waitTo d r + 1)))
 
 -- ---- a tick that leaves a wait is a waiting tick
-
-or-left : (a b : Bool) → (a || b) ≡ false → a ≡ false
-or-left true b e = e
-or-left false b e = refl
-
-or-right : (a b : Bool) → (a || b) ≡ false → b ≡ false
-or-right true b e = absurd (true≢false e)
-or-right false b e = e
 
 one-left : (n : ℕ) → n ≤ 1 → (n ≡ 0 → ⊥) → n ≡ 1
 one-left n h k = ⊎-elim (λ z. absurd (k z)) (λ p. omega arith) (eq-zero-or-pos n)

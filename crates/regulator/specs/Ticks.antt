@@ -1,7 +1,5 @@
 -- The rules of one tick (01, 'The rules, in order'). Definitions only.
-use Prim.Native.Nat.{ℕ}
 use mathlib.Core.Bool.{Bool, _||_}
-use mathlib.Core.List.{List}
 use lib.Dec.{eqb}
 use lib.ListN.{replicate}
 use Rattle.common.specs.Choice.{choose}

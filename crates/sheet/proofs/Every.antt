@@ -6,19 +6,7 @@ use Prim.Native.Nat.{ℕ, zero, suc, _<_}
 use native.Mathlib.Nat.{not-suc-le-zero, eq-or-lt-of-le, le-of-suc-le-suc}
 use mathlib.Core.Logic.{⊎-elim}
 use borrow.Author.Tests.{not-true}
-
--- both parts of a test that holds
-pub and-left : (a b : Bool) → (a && b) ≡ true → a ≡ true
-and-left true b e = cc
-and-left false b e = e
-
-pub and-right : (a b : Bool) → (a && b) ≡ true → b ≡ true
-and-right true b e = e
-and-right false b e = let z : _≡_ {A = Bool} false true = e in cc
-
-pub and-both : (a b : Bool) → a ≡ true → b ≡ true → (a && b) ≡ true
-and-both true b p q = q
-and-both false b p q = p
+use Rattle.common.proofs.Joined.{and-left, and-right}
 
 -- whether two tests agree
 abbrev pub same : Bool → Bool → Bool

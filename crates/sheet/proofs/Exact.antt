@@ -17,7 +17,7 @@ use Rattle.sheet.specs.Sheet.{firstFrom, takenIn, firstOutOfRange, judge
 use Rattle.sheet.specs.Settings.{Settings}
 use Rattle.sheet.specs.declared.Answer.the-variants.{Taken, WrongLength, OutOfRange, TapOrder}
 use Rattle.sheet.specs.declared.Sheet.{Sheet}
-use Rattle.sheet.proofs.Every.{and-left, and-right, and-both}
+use Rattle.common.proofs.Joined.{and-left, and-right, and-both}
 use Rattle.sheet.proofs.Answers.{within, answer-right, not-refused, returned}
 
 -- a number that the test takes is low + a whole multiple of the step, up to high, and no other is

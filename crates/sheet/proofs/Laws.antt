@@ -15,7 +15,8 @@ use Rattle.sheet.specs.Table.{rowOf, rowIn, moduleFactor, factorOf, lowO
 use Rattle.sheet.specs.Sheet.{isTaken, takenIn, judgeOf, passesOf, answerOf}
 use Rattle.sheet.specs.declared.Answer.{Answer}
 use Rattle.sheet.specs.declared.Answer.the-variants.{Taken, WrongLength, OutOfRange, TapOrder}
-use Rattle.sheet.proofs.Every.{and-left, and-right, allBelow, every}
+use Rattle.common.proofs.Joined.{and-left, and-right}
+use Rattle.sheet.proofs.Every.{allBelow, every}
 use Rattle.sheet.proofs.Exact.{Kept, judged-kept, exact}
 use Rattle.sheet.proofs.Answers.{answer-right}
 

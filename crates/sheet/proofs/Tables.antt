@@ -2,8 +2,8 @@
 -- Assumes nothing.
 use mathlib.Core.Path.{_≡_, refl, sym, ap, _∙_}
 use mathlib.Core.Bool.{Bool, true, false, _&&_, _||_}
-use mathlib.Core.Logic.{_⊎_, inl, inr, ⊎-elim}
-use mathlib.Core.List.{List, [], _∷_}
+use mathlib.Core.Logic.{_⊎_, ⊎-elim}
+use mathlib.Core.List.{List}
 use Prim.Native.Nat.{ℕ, zero, suc, _+_, _*_, _%_, _≤_, _<_}
 use native.Mathlib.Nat.{mod-one, mul-le-mul, add-zero, zero-add, add-suc, suc-add, le-of-suc-le-suc, not-suc-le-zero}
 use native.Mathlib.Omega.{arith}
@@ -16,6 +16,7 @@ use mir.Facts.{fits-le, fits-lit}
 use Rattle.common.specs.Choice.{choose}
 use Rattle.common.proofs.Cases.{yes, no, chosen}
 use Rattle.sheet.specs.Table.{Row, rowOf, rowIn, columnFrom, lowColumn, highColumn, stepColumn, moduleFactor, factorOf, lowOf, highOf, stepOf}
+use Rattle.common.proofs.Joined.{split}
 use Rattle.sheet.proofs.Every.{every, same, same-true}
 
 at-from : (part : Row → ℕ) (i n k : ℕ) → k < n → getD (columnFrom part i n) k 0 ≡ part (rowOf (i + k))
@@ -98,10 +99,6 @@ module _ {l : List ℕ} {i : ℕ} (h : i < 63) where
 pub one-or-hundred : (n d : ℕ) → (eqb d 1 || eqb d 100) ≡ true → (eqb d 1 || eqb (n % 100) 0) ≡ eqb (n % d) 0
 one-or-hundred n d e = ⊎-elim (λ t. one (eqb-true d 1 t)) (λ f. rest f) (split (eqb d 1))
   where
-    split : (b : Bool) → (b ≡ true) ⊎ (b ≡ false)
-    split true = inl refl
-    split false = inr refl
-
     one : d ≡ 1 → (eqb d 1 || eqb (n % 100) 0) ≡ eqb (n % d) 0
     one q = rw (q, mod-one n)
 

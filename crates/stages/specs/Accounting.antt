@@ -4,7 +4,6 @@ use mathlib.Core.List.{List}
 use lib.Dec.{ltb, eqb}
 use Rattle.common.specs.Choice.{choose}
 use Rattle.slots.specs.Slots.{slot, wearCount}
-use Rattle.drive.specs.declared.Direction.{Direction}
 use Rattle.drive.specs.declared.Way.{Way}
 use Rattle.drive.specs.declared.Way.the-variants.{Neither, To}
 use Rattle.drive.specs.Ways.{newerOf}

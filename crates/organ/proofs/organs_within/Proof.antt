@@ -5,7 +5,7 @@ use mathlib.Core.Path.{_≡_}
 use borrow.Author.Needs.{needs}
 use borrow.Author.Tests.{not-true, not-false}
 use Rattle.organ.specs.Limits.{organWithin, organsWithin}
-use Rattle.organ.proofs.Places.{rest, rest-on, rest-no, rest-none}
+use Rattle.common.proofs.Places.{rest, rest-on, rest-no, rest-none}
 use Rattle.organ.proofs.organs_within.Statement.{statement}
 use Rattle.organ.proofs.organs_within.Tie as tie
 

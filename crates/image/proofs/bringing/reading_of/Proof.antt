@@ -1,7 +1,6 @@
 -- `image::bringing::reading_of` meets its contract: each branch is a choice of the definition. Assumes nothing.
 use Rattle.common.proofs.Cases.{cases}
 use Rattle.image.specs.Bringing.{readingOf}
-use borrow.Author.Needs.{needs}
 use Rattle.image.proofs.bringing.reading_of.Statement.{statement}
 use Rattle.image.proofs.bringing.reading_of.Tie as tie
 

@@ -1,7 +1,6 @@
 -- `image::numbers::way_of` meets its contract: each branch is a choice of the definition. Assumes nothing.
 use Rattle.common.proofs.Cases.{cases}
 use Rattle.image.specs.Numbers.{wayOf}
-use borrow.Author.Needs.{needs}
 use Rattle.image.proofs.numbers.way_of.Statement.{statement}
 use Rattle.image.proofs.numbers.way_of.Tie as tie
 

@@ -2,7 +2,7 @@
 -- Assumes nothing.
 use Prim.Native.Nat.{_≤_, _-_}
 use mathlib.Core.Path.{_≡_}
-use Rattle.organ.proofs.Places.{rest}
+use Rattle.common.proofs.Places.{rest}
 use Rattle.image.specs.Places.{areMarks}
 use Rattle.image.proofs.Organs.{bitAt, bits-start, bits-on, bits-no, bits-none}
 use borrow.Author.Needs.{needs}

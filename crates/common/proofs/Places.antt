@@ -8,8 +8,7 @@ use native.Mathlib.Nat.{le-of-suc-le-suc, not-suc-le-zero}
 use native.Mathlib.Numerals.{add-one}
 use native.Mathlib.Omega.{arith}
 use lib.ListN.{length, getD, drop, drop-of-length-le}
-use Rattle.common.specs.Places.{zip}
-use Rattle.organ.specs.Limits.{every}
+use Rattle.common.specs.Places.{zip, every}
 
 module _ {A B C : Type 0} (f : A → B → C) where
   -- two lists of one length give a list of that length
