@@ -6,27 +6,38 @@ use mathlib.Core.List.{List}
 use Prim.Native.Nat.{ℕ, _-_, _%_, _<_, _≤_}
 use lib.Dec.{leb, eqb}
 use lib.ListN.{length}
-use borrow.Author.Tests.{lt-ltb, le-ltb, le-leb, lt-leb, eq-eqb, ne-eqb}
+use native.Mathlib.Nat.{mod-one}
+use borrow.Author.Tests.{eqb-true, lt-ltb, le-ltb, le-leb, lt-leb, eq-eqb, ne-eqb}
 use Rattle.common.specs.Choice.{choose}
 use Rattle.common.proofs.Cases.{yes, no}
 use Rattle.slots.specs.Slots.{slot, nPos, nR, nL}
-use Rattle.sheet.specs.Table.{lowOf, highOf, stepOf, takenOf}
-use Rattle.sheet.proofs.Tables.{step-kind, one-or-hundred}
+use Rattle.sheet.specs.Table.{takenBy}
 use Rattle.sheet.specs.Sheet.{isTaken, firstOutOfRange, wrongLength, outOfRange, endsCrossed, posOutside, judgeOf, passesOf, answerOf, zeros, sheetWith, sheetOf, replyOf, returnedOf}
 use Rattle.sheet.specs.declared.Answer.{Answer}
 use Rattle.sheet.specs.declared.Answer.the-variants.{Taken, WrongLength, OutOfRange, TapOrder}
 use Rattle.sheet.specs.declared.Sheet.{Sheet}
 
--- a number at a slot, whose range is known
-module _ (k i x : ℕ) {l : ℕ} (p : l ≡ lowOf k i) where
-  pub too-low : x < l → false ≡ takenOf k i x
-  unfolding takenOf
-  too-low t = rw (← p, lt-leb l x t)
+-- a number against a range
+module _ (l h d x : ℕ) where
+  pub too-low : x < l → false ≡ takenBy l h d x
+  unfolding takenBy
+  too-low t = rw (lt-leb l x t)
 
-  pub by-step : {h d : ℕ} → h ≡ highOf k i → d ≡ stepOf i → i < 63 → l ≤ x → (leb x h && (eqb d 1 || eqb ((x - l) % 100) 0)) ≡ takenOf k i x
-  unfolding takenOf
-  by-step {h} {d} q e b t =
-      ap (λ (z : Bool). leb x h && z) (one-or-hundred (x - l) d (ap (λ (z : ℕ). eqb z 1 || eqb z 100) e ∙ step-kind i b)) ∙ rw (← p, ← q, ← e, le-leb l x t)
+  module _ (a : l ≤ x) where
+    pub too-high : h < x → false ≡ takenBy l h d x
+    unfolding takenBy
+    too-high t = rw (le-leb l x a, lt-leb x h t)
+
+    module _ (b : x ≤ h) where
+      pub by-one : d ≡ 1 → true ≡ takenBy l h d x
+      unfolding takenBy
+      by-one e = rw (le-leb l x a, le-leb x h b, e, mod-one (x - l))
+
+      pub by-hundred : (d ≡ 1 → ⊥) → (eqb d 1 || eqb d 100) ≡ true → eqb ((x - l) % 100) 0 ≡ takenBy l h d x
+      unfolding takenBy
+      by-hundred n e =
+          let f : d ≡ 100 = eqb-true d 100 (rw (ne-eqb d 1 n) at e) in
+          rw (le-leb l x a, le-leb x h b, f)
 
 -- a sheet is made
 module _ (a : Answer) (s : List ℕ) {t : Bool} (e : t ≡ isTaken a) where

@@ -12,7 +12,7 @@ use borrow.Author.Tests.{ltb-false, leb-true, leb-false, le-leb, eqb-true, eq-eq
 use Rattle.common.specs.Choice.{choose}
 use Rattle.common.proofs.Cases.{yes, no}
 use Rattle.slots.specs.Slots.{slot, nPos, nR, nL}
-use Rattle.sheet.specs.Table.{lowOf, highOf, stepOf, takenOf, Taking}
+use Rattle.sheet.specs.Table.{lowOf, highOf, stepOf, takenOf, takenBy, Taking}
 use Rattle.sheet.specs.Sheet.{firstFrom, takenIn, firstOutOfRange, judgeOf, answerOf, sheetWith, sheetOf, replyOf, returnedOf}
 use Rattle.sheet.specs.Settings.{Settings}
 use Rattle.sheet.specs.declared.Answer.the-variants.{Taken, WrongLength, OutOfRange, TapOrder}
@@ -23,7 +23,7 @@ use Rattle.sheet.proofs.Answers.{within, answer-right, not-refused, ret
 -- a number that the test takes is low + a whole multiple of the step, up to high, and no other is
 module _ (k i x : ℕ) where
   pub taken-taking : takenOf k i x ≡ true → Taking k i x
-  unfolding takenOf
+  unfolding takenOf takenBy
   taken-taking e =
       let l : lowOf k i ≤ x = leb-true _ _ (and-left _ _ e) in
       let r = and-right (leb (lowOf k i) x) _ e in
@@ -32,7 +32,7 @@ module _ (k i x : ℕ) where
       ((x - lowOf k i) / stepOf i, omega arith, leb-true _ _ (and-left _ _ r))
 
   pub taking-taken : Taking k i x → takenOf k i x ≡ true
-  unfolding takenOf
+  unfolding takenOf takenBy
   taking-taken t =
       let n = t .0 in
       let e : x ≡ lowOf k i + n * stepOf i = t .1 in

@@ -9,7 +9,8 @@ use native.Mathlib.Omega.{arith}
 use lib.ListN.{getD}
 use Rattle.common.proofs.Cases.{yes, no}
 use Rattle.sheet.specs.Sheet.{firstFrom, takenIn, firstOutOfRange}
-use Rattle.sheet.specs.Table.{takenOf, moduleFactor}
+use Rattle.sheet.specs.Table.{takenBy, takenOf}
+use Rattle.sheet.proofs.Tables.{Columns}
 
 -- the lowest slot out of range is the lowest from i on
 abbrev pub From : List ℕ → ℕ → Type 0
@@ -32,11 +33,11 @@ module _ (s : List ℕ) (i : ℕ) (h : i < 63) where
   unfolding firstFrom
   step-here e = rw next (sym (no _ _ _ _ e refl))
 
-module _ (s : List ℕ) {k i : ℕ} (inv : From s i) where
-  module _ {t : Bool} (h : i < 63) (e : t ≡ takenOf k i (getD s i 0)) (m : k ≡ moduleFactor s) where
+module _ (s : List ℕ) {i : ℕ} {lows highs steps : List ℕ} (inv : From s i) (h : i < 63) (c : Columns s lows highs steps) where
+  module _ {t : Bool} (e : t ≡ takenBy (getD lows i 0) (getD highs i 0) (getD steps i 0) (getD s i 0)) where
     told : {b : Bool} → t ≡ b → takenIn s i ≡ b
-    unfolding takenIn
-    told p = rw (← m) (sym e ∙ p)
+    unfolding takenIn takenOf
+    told p = rw (← c .low i h, ← c .high i h, ← c .step i h) (sym e ∙ p)
 
     pub first-on : t ≡ true → From s (i + 1)
     first-on p = inv ∙ step-on s i h (told p)

@@ -11,7 +11,7 @@ use borrow.Author.Tests.{leb-true, ltb-true}
 use Rattle.common.specs.Choice.{choose}
 use Rattle.common.proofs.Cases.{chosen}
 use Rattle.slots.specs.Slots.{slot, t1, t2, t3, t4, t5, t6, t7, t8, organDelays, organLimits, uSupp, dU, uComp, uSet5, nPos, nR, nL, nStart, nMax, slidingTaps}
-use Rattle.sheet.specs.Table.{rowOf, rowIn, moduleFactor, factorOf, lowOf, highOf, takenOf}
+use Rattle.sheet.specs.Table.{rowOf, rowIn, moduleFactor, factorOf, lowOf, highOf, takenOf, takenBy}
 use Rattle.sheet.specs.Sheet.{isTaken, takenIn, judgeOf, passesOf, answerOf}
 use Rattle.sheet.specs.declared.Answer.{Answer}
 use Rattle.sheet.specs.declared.Answer.the-variants.{Taken, WrongLength, OutOfRange, TapOrder}
@@ -59,7 +59,7 @@ module _ (s : List ℕ) (e : passesOf s ≡ true) where
 
   -- each slot is within its row
   pub in-range : (i : ℕ) → i < 63 → (lowOf (moduleFactor s) i ≤ slot s i) × (slot s i ≤ highOf (moduleFactor s) i)
-  unfolding takenIn takenOf
+  unfolding takenIn takenOf takenBy
   in-range i h =
       let t = kept .ranges i h in
       (leb-true _ _ (and-left _ _ t), leb-true _ _ (and-left _ _ (and-right (leb (lowOf (moduleFactor s) i) (slot s i)) _ t)))

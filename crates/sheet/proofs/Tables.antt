@@ -1,108 +1,76 @@
--- The constant tables are the columns of the paper's rows, and no product of theirs with k wraps. antt computes it at the 63 slots.
+-- The constant tables are the columns of the paper's rows, scaled by k, and no product of theirs with k wraps. antt computes it at the
+-- 63 slots, for both modules.
 -- Assumes nothing.
 use mathlib.Core.Path.{_≡_, refl, sym, ap, _∙_}
-use mathlib.Core.Bool.{Bool, true, false, _&&_, _||_}
-use mathlib.Core.Logic.{_⊎_, ⊎-elim}
+use mathlib.Core.Bool.{Bool, true, false, _||_}
+use mathlib.Core.Logic.{⊎-elim}
 use mathlib.Core.List.{List}
-use Prim.Native.Nat.{ℕ, zero, suc, _+_, _*_, _%_, _≤_, _<_}
-use native.Mathlib.Nat.{mod-one, mul-le-mul, add-zero, zero-add, add-suc, suc-add, le-of-suc-le-suc, not-suc-le-zero}
+use Prim.Native.Nat.{ℕ, _*_, _%_, _≤_, _<_}
+use native.Mathlib.Nat.{mod-one, mul-le-mul}
 use native.Mathlib.Omega.{arith}
 use lib.ListN.{getD}
-use lib.Dec.{leb, eqb}
-use borrow.Author.Tests.{leb-true, eqb-true}
+use lib.Dec.{eqb}
+use borrow.Author.Tests.{eqb-true}
 use mir.Val.{Fits}
 use mir.Syntax.{w32}
 use mir.Facts.{fits-le, fits-lit}
 use Rattle.common.specs.Choice.{choose}
-use Rattle.common.proofs.Cases.{yes, no, chosen}
-use Rattle.sheet.specs.Table.{Row, rowOf, rowIn, columnFrom, lowColumn, highColumn, stepColumn, moduleFactor, factorOf, lowOf, highOf, stepOf}
+use Rattle.common.proofs.Cases.{chosen}
 use Rattle.common.proofs.Joined.{split}
-use Rattle.sheet.proofs.Every.{every, same, same-true}
+use Rattle.sheet.specs.Table.{rowOf, rowIn, lowColumn, highColumn, stepColumn, timesK, moduleFactor, factorOf, lowOf, highOf, stepOf}
+use Rattle.sheet.proofs.Every.{every}
 
-at-from : (part : Row → ℕ) (i n k : ℕ) → k < n → getD (columnFrom part i n) k 0 ≡ part (rowOf (i + k))
-at-from part i zero k h = absurd (not-suc-le-zero h)
-at-from part i (suc n) zero h = rw add-zero
-at-from part i (suc n) (suc k) h = rw (add-suc, ← suc-add) (at-from part (suc i) n k (le-of-suc-le-suc h))
-
--- a part of every slot's row
-abbrev pub column : (Row → ℕ) → List ℕ
-column part = columnFrom part 0 63
-
-module _ (part : Row → ℕ) {i : ℕ} (h : i < 63) where
-  pub in-column : getD (column part) i 0 ≡ part (rowOf i)
-  in-column = at-from part 0 63 i h ∙ ap (λ (j : ℕ). part (rowOf j)) (zero-add i)
-
-  pub scaled : (k : ℕ) {f : ℕ} → f ≡ factorOf k i → getD (column part) i 0 * f ≡ part (rowOf i) * factorOf k i
-  scaled k e = rw (in-column, e)
-
--- the bounds of the rows
-module _ (i : ℕ) (h : i < 63) where
-  pub low-le : rowOf i .low ≤ 500000
-  unfolding rowOf rowIn choose
-  low-le = leb-true _ _ (every (λ (j : ℕ). leb (rowOf j .low) 500000) 63 refl i h)
-
-  pub high-le : rowOf i .high ≤ 500000
-  unfolding rowOf rowIn choose
-  high-le = leb-true _ _ (every (λ (j : ℕ). leb (rowOf j .high) 500000) 63 refl i h)
-
-  pub step-kind : (eqb (stepOf i) 1 || eqb (stepOf i) 100) ≡ true
-  unfolding stepOf rowOf rowIn choose
-  step-kind = every (λ (j : ℕ). eqb (rowOf j .step) 1 || eqb (rowOf j .step) 100) 63 refl i h
-
--- a number of the table times k fits
-module _ (part : Row → ℕ) {i f : ℕ} (h : i < 63) where
-  pub scaled-fits : part (rowOf i) ≤ 500000 → f ≤ 5 → Fits w32 (getD (column part) i 0 * f)
-  scaled-fits p q = rw (in-column part h) (fits-le {n = 500000 * 5} (mul-le-mul p q) (fits-lit tt))
+-- k is 1 or 5: what holds with both holds with the sheet's
+module _ (P : ℕ → Type 0) (one : P 1) (five : P 5) (s : List ℕ) where
+  with-module : {k : ℕ} → k ≡ moduleFactor s → P k
+  unfolding moduleFactor
+  with-module e = rw e (chosen P _ 5 1 (λ t. five) (λ t. one))
 
 pub factor-le : (s : List ℕ) {k : ℕ} → k ≡ moduleFactor s → k ≤ 5
-unfolding moduleFactor
-factor-le s e = rw e (chosen (λ n. n ≤ 5) _ 5 1 (λ t. omega arith) (λ t. omega arith))
+factor-le s = with-module (λ k. k ≤ 5) (omega arith) (omega arith) s
 
--- the current rows are those that the code scales
-module _ (k i : ℕ) (h : i < 63) where
-  flag : (leb 25 i && leb i 27) ≡ rowOf i .scaled
-  unfolding rowOf rowIn choose
-  flag = same-true _ _ (every (λ (j : ℕ). same (leb 25 j && leb j 27) (rowOf j .scaled)) 63 refl i h)
+-- a number of a current row times k fits
+pub times-fits : {n k : ℕ} → n ≤ 40000 → k ≤ 5 → Fits w32 (n * k)
+times-fits p q = fits-le {n = 40000 * 5} (mul-le-mul p q) (fits-lit tt)
 
-  pub factor-k : (leb 25 i && leb i 27) ≡ true → k ≡ factorOf k i
-  unfolding factorOf
-  factor-k e = yes _ _ _ _ (sym flag ∙ e) refl
+-- the columns of a list's ranges, at every slot
+pub record Columns (s : List ℕ) (lows highs steps : List ℕ) : Type 0 where
+  pub low : (i : ℕ) → i < 63 → getD lows i 0 ≡ lowOf (moduleFactor s) i
+  pub high : (i : ℕ) → i < 63 → getD highs i 0 ≡ highOf (moduleFactor s) i
+  pub step : (i : ℕ) → i < 63 → getD steps i 0 ≡ stepOf i
 
-  pub factor-1 : (leb 25 i && leb i 27) ≡ false → 1 ≡ factorOf k i
-  unfolding factorOf
-  factor-1 e = no _ _ _ _ (sym flag ∙ e) refl
+abbrev lowAt : ℕ → ℕ → Bool
+lowAt k i = eqb (getD (timesK k lowColumn) i 0) (lowOf k i)
 
--- the columns that the code lends
-module _ {l : List ℕ} {i f : ℕ} (h : i < 63) where
-  pub low-fits : l ≡ lowColumn → f ≤ 5 → Fits w32 (getD l i 0 * f)
-  unfolding lowColumn
-  low-fits e q = rw e (scaled-fits (λ r. r .low) h (low-le i h) q)
+abbrev highAt : ℕ → ℕ → Bool
+highAt k i = eqb (getD (timesK k highColumn) i 0) (highOf k i)
 
-  pub high-fits : l ≡ highColumn → f ≤ 5 → Fits w32 (getD l i 0 * f)
-  unfolding highColumn
-  high-fits e q = rw e (scaled-fits (λ r. r .high) h (high-le i h) q)
+module _ (i : ℕ) (h : i < 63) where
+  lows-at : (lowAt 1 i ≡ true) × (lowAt 5 i ≡ true)
+  unfolding timesK lowColumn lowOf factorOf rowOf rowIn choose
+  lows-at = (every (lowAt 1) 63 refl i h, every (lowAt 5) 63 refl i h)
 
-  pub low-is : (k : ℕ) → l ≡ lowColumn → f ≡ factorOf k i → getD l i 0 * f ≡ lowOf k i
-  unfolding lowColumn lowOf
-  low-is k e q = rw e (scaled (λ r. r .low) h k q)
+  highs-at : (highAt 1 i ≡ true) × (highAt 5 i ≡ true)
+  unfolding timesK highColumn highOf factorOf rowOf rowIn choose
+  highs-at = (every (highAt 1) 63 refl i h, every (highAt 5) 63 refl i h)
 
-  pub high-is : (k : ℕ) → l ≡ highColumn → f ≡ factorOf k i → getD l i 0 * f ≡ highOf k i
-  unfolding highColumn highOf
-  high-is k e q = rw e (scaled (λ r. r .high) h k q)
+  steps-at : getD stepColumn i 0 ≡ stepOf i
+  unfolding stepColumn stepOf rowOf rowIn choose
+  steps-at = eqb-true _ _ (every (λ (j : ℕ). eqb (getD stepColumn j 0) (stepOf j)) 63 refl i h)
 
-module _ {l : List ℕ} {i : ℕ} (h : i < 63) where
-  pub step-is : l ≡ stepColumn → getD l i 0 ≡ stepOf i
-  unfolding stepColumn stepOf
-  step-is e = rw e (in-column (λ r. r .step) h)
+  module _ (s : List ℕ) where
+    low-at : getD (timesK (moduleFactor s) lowColumn) i 0 ≡ lowOf (moduleFactor s) i
+    low-at = eqb-true _ _ (with-module (λ k. lowAt k i ≡ true) (lows-at .0) (lows-at .1) s refl)
 
--- a multiple of a step that is 1 or 100
-pub one-or-hundred : (n d : ℕ) → (eqb d 1 || eqb d 100) ≡ true → (eqb d 1 || eqb (n % 100) 0) ≡ eqb (n % d) 0
-one-or-hundred n d e = ⊎-elim (λ t. one (eqb-true d 1 t)) (λ f. rest f) (split (eqb d 1))
-  where
-    one : d ≡ 1 → (eqb d 1 || eqb (n % 100) 0) ≡ eqb (n % d) 0
-    one q = rw (q, mod-one n)
+    high-at : getD (timesK (moduleFactor s) highColumn) i 0 ≡ highOf (moduleFactor s) i
+    high-at = eqb-true _ _ (with-module (λ k. highAt k i ≡ true) (highs-at .0) (highs-at .1) s refl)
 
-    rest : eqb d 1 ≡ false → (eqb d 1 || eqb (n % 100) 0) ≡ eqb (n % d) 0
-    rest f =
-        let g : eqb d 100 ≡ true = ap (λ (b : Bool). b || eqb d 100) (sym f) ∙ e in
-        rw (f, eqb-true d 100 g)
+pub columns : (s : List ℕ) {k : ℕ} {lows highs steps : List ℕ} → k ≡ moduleFactor s → lows ≡ timesK k lowColumn → highs ≡ timesK k highColumn
+    → steps ≡ stepColumn → Columns s lows highs steps
+columns s m l u d = record { low = λ i h. rw (l, m) (low-at i h s); high = λ i h. rw (u, m) (high-at i h s); step = λ i h. rw d (steps-at i h) }
+
+-- a step is 1 or 100
+pub step-kind : (s : List ℕ) {i : ℕ} {lows highs steps : List ℕ} → Columns s lows highs steps → i < 63
+    → (eqb (getD steps i 0) 1 || eqb (getD steps i 0) 100) ≡ true
+unfolding stepOf rowOf rowIn choose
+step-kind s {i} c h = rw (c .step i h) (every (λ (j : ℕ). eqb (stepOf j) 1 || eqb (stepOf j) 100) 63 refl i h)

@@ -4,8 +4,9 @@ use mathlib.Core.Path.{_≡_}
 use mathlib.Core.Bool.{Bool, true, false, _&&_}
 use mathlib.Core.List.{List, [], _∷_}
 use lib.Dec.{leb, eqb}
+use lib.ListN.{getD, set}
 use Rattle.common.specs.Choice.{choose}
-use Rattle.slots.specs.Slots.{slot, slots, moduleKind}
+use Rattle.slots.specs.Slots.{slot, slots, moduleKind, iSet1, iSet2, iSet3}
 
 -- a row: its slots, first to last, their low, high and step, and whether low and high are times k
 pub record Row : Type 0 where
@@ -105,6 +106,10 @@ highColumn = columnFrom (λ r. r .high) 0 slots
 unfoldable pub stepColumn : List ℕ
 stepColumn = columnFrom (λ r. r .step) 0 slots
 
+-- a column with its current rows, 25 to 27, times k
+unfoldable pub timesK : ℕ → List ℕ → List ℕ
+timesK k l = set (set (set l iSet1 (getD l iSet1 0 * k)) iSet2 (getD l iSet2 0 * k)) iSet3 (getD l iSet3 0 * k)
+
 -- k: 5 if slot 1 is 1, the 5 A module, else 1
 unfoldable pub moduleFactor : List ℕ → ℕ
 moduleFactor s = choose (eqb (slot s moduleKind) 1) 5 1
@@ -123,8 +128,11 @@ unfoldable pub stepOf : ℕ → ℕ
 stepOf i = rowOf i .step
 
 -- 'a taken number is low + a whole multiple of the step, up to high'
+unfoldable pub takenBy : ℕ → ℕ → ℕ → ℕ → Bool
+takenBy low high step x = leb low x && (leb x high && eqb ((x - low) % step) 0)
+
 unfoldable pub takenOf : ℕ → ℕ → ℕ → Bool
-takenOf k i x = leb (lowOf k i) x && (leb x (highOf k i) && eqb ((x - lowOf k i) % stepOf i) 0)
+takenOf k i x = takenBy (lowOf k i) (highOf k i) (stepOf i) x
 
 -- the same, with the multiple named
 abbrev pub Taking : ℕ → ℕ → ℕ → Type 0

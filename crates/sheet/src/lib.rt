@@ -4,18 +4,21 @@ mod ranges;
 use ranges::HIGH;
 use ranges::LOW;
 use ranges::STEP;
+use slots::I_SET1;
+use slots::I_SET2;
 use slots::I_SET3;
 use slots::MODULE;
 use slots::N_L;
 use slots::N_POS;
 use slots::N_R;
-use slots::ORGAN_LIMITS;
 use slots::SLOTS;
 ghost use mathlib.Core.Path.{_≡_};
 ghost use mathlib.Core.Logic.{_↔_};
-ghost use Prim.Native.Nat.{_<_, _≤_};
-ghost use lib.ListN.{length};
-ghost use Rattle.sheet.specs.Table.{moduleFactor, factorOf, lowColumn, highColumn, stepColumn, lowOf, highOf, stepOf, takenOf};
+ghost use Prim.Native.Nat.{_≤_};
+ghost use mathlib.Core.Bool.{true, _||_};
+ghost use lib.Dec.{eqb};
+ghost use lib.ListN.{length, getD};
+ghost use Rattle.sheet.specs.Table.{moduleFactor, timesK, takenBy};
 ghost use Rattle.sheet.specs.Sheet.{numberOf, slotOf, isTaken, firstOutOfRange, judgeOf, passesOf, sheetWith, sheetOf, replyOf, returnedOf};
 ghost use Rattle.sheet.specs.Settings.{Settings};
 
@@ -33,13 +36,6 @@ pub struct Sheet {
     pub settings: [u32; SLOTS],
 }
 
-// A slot's range.
-struct Range {
-    low: u32,
-    high: u32,
-    step: u32,
-}
-
 // k, the factor of the current rows: 5 for a 5 A module, else 1.
 pub fn module_factor(s: &[u32; SLOTS]) -> u32
     ensures { λ r. ⌜ r ≡ moduleFactor (now (s .entry)) ⌝ }
@@ -47,66 +43,47 @@ pub fn module_factor(s: &[u32; SLOTS]) -> u32
     if s[MODULE] == 1 { 5 } else { 1 }
 }
 
-// k at a current row, else 1.
-fn factor_at(i: usize, k: u32) -> u32
-    requires { ⌜ (i < 63) × (k ≤ 5) ⌝ }
-    ensures { λ r. ⌜ (r ≡ factorOf k i) × (r ≤ 5) ⌝ }
+// A column of the table with its current rows scaled by k.
+fn times_k(column: [u32; SLOTS], k: u32) -> [u32; SLOTS]
+    requires { ⌜ (k ≤ 5) × (getD column 25 0 ≤ 40000) × (getD column 26 0 ≤ 40000) × (getD column 27 0 ≤ 40000) ⌝ }
+    ensures { λ r. ⌜ r ≡ timesK k column ⌝ }
 {
-    if (ORGAN_LIMITS <= i) & (i <= I_SET3) {
-        k
-    } else {
-        1
-    }
+    let mut scaled = column;
+    scaled[I_SET1] = column[I_SET1] * k;
+    scaled[I_SET2] = column[I_SET2] * k;
+    scaled[I_SET3] = column[I_SET3] * k;
+    scaled
 }
 
-// The slot's range, the current rows scaled by k. The tables are lent, so that a loop over the slots makes them once.
-fn range_at(
-    lows: &[u32; SLOTS],
-    highs: &[u32; SLOTS],
-    steps: &[u32; SLOTS],
-    i: usize,
-    k: u32,
-) -> Range
-    requires { ⌜ (i < 63) × (k ≤ 5) × (now lows ≡ lowColumn) × (now highs ≡ highColumn) × (now steps ≡ stepColumn) ⌝ }
-    ensures { λ r. ⌜ (r .low ≡ lowOf k i) × (r .high ≡ highOf k i) × (r .step ≡ stepOf i) ⌝ }
+// Whether the number is low + a whole multiple of the step, up to high. A step is 1 or 100: no division by a number that is
+// not known beforehand.
+fn in_range(low: u32, high: u32, step: u32, x: u32) -> bool
+    requires { ⌜ (eqb step 1 || eqb step 100) ≡ true ⌝ }
+    ensures { λ r. ⌜ r ≡ takenBy low high step x ⌝ }
 {
-    let factor = factor_at(i, k);
-    let low = lows[i] * factor;
-    let high = highs[i] * factor;
-    let step = steps[i];
-    Range { low, high, step }
-}
-
-// Whether the number is taken at the slot. A step is 1 or 100: no division by a number that is not known beforehand.
-fn taken_at(
-    lows: &[u32; SLOTS],
-    highs: &[u32; SLOTS],
-    steps: &[u32; SLOTS],
-    i: usize,
-    k: u32,
-    x: u32,
-) -> bool
-    requires { ⌜ (i < 63) × (k ≤ 5) × (now lows ≡ lowColumn) × (now highs ≡ highColumn) × (now steps ≡ stepColumn) ⌝ }
-    ensures { λ r. ⌜ r ≡ takenOf k i x ⌝ }
-{
-    let range = range_at(lows, highs, steps, i, k);
-    if x < range.low {
+    if x < low {
         return false;
     }
-    (x <= range.high) & ((range.step == 1) | ((x - range.low) % 100 == 0))
+    if high < x {
+        return false;
+    }
+    if step == 1 {
+        return true;
+    }
+    (x - low) % 100 == 0
 }
 
-// The lowest slot that is out of range, or 63.
+// The lowest slot that is out of range, or 63. The columns are made and scaled once, before the loop.
 fn first_out_of_range(s: &[u32; SLOTS]) -> usize
     ensures { λ r. ⌜ r ≡ firstOutOfRange (now (s .entry)) ⌝ }
 {
-    let lows = LOW;
-    let highs = HIGH;
-    let steps = STEP;
     let k = module_factor(s);
+    let lows = times_k(LOW, k);
+    let highs = times_k(HIGH, k);
+    let steps = STEP;
     let mut i: usize = 0;
     while i < SLOTS {
-        if !taken_at(&lows, &highs, &steps, i, k, s[i]) {
+        if !in_range(lows[i], highs[i], steps[i], s[i]) {
             return i;
         }
         i += 1;

@@ -66,6 +66,12 @@ uComp = 24
 abbrev pub organLimits : ℕ
 organLimits = 25
 
+abbrev pub iSet1 : ℕ
+iSet1 = 25
+
+abbrev pub iSet2 : ℕ
+iSet2 = 26
+
 abbrev pub iSet3 : ℕ
 iSet3 = 27
 

@@ -35,6 +35,10 @@ pub const U_COMP: usize = 24;
 // Seven: I_set1 to 3, U_set1 to 4.
 pub const ORGAN_LIMITS: usize = 25;
 
+pub const I_SET1: usize = 25;
+
+pub const I_SET2: usize = 26;
+
 pub const I_SET3: usize = 27;
 
 pub const U_SET5: usize = 32;

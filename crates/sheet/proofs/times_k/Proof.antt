@@ -1,0 +1,53 @@
+-- `sheet::times_k` meets its contract.
+-- Assumes nothing.
+use borrow.Author.Needs.{needs}
+use Rattle.sheet.specs.Table.{timesK}
+use Rattle.sheet.proofs.Tables.{times-fits}
+use Rattle.sheet.proofs.times_k.Statement.{statement}
+use Rattle.sheet.proofs.times_k.Tie as tie
+
+array-read-scaled : tie.Need-array-read-scaled
+array-read-scaled c = search needs
+
+mul-scaled : tie.Need-mul-scaled
+mul-scaled c = search (needs, times-fits)
+
+array-write-scaled : tie.Need-array-write-scaled
+array-write-scaled c = search needs
+
+array-read-scaled-2 : tie.Need-array-read-scaled-2
+array-read-scaled-2 c = search needs
+
+mul-scaled-2 : tie.Need-mul-scaled-2
+mul-scaled-2 c = search (needs, times-fits)
+
+array-write-scaled-2 : tie.Need-array-write-scaled-2
+array-write-scaled-2 c = search needs
+
+array-read-scaled-3 : tie.Need-array-read-scaled-3
+array-read-scaled-3 c = search needs
+
+mul-scaled-3 : tie.Need-mul-scaled-3
+mul-scaled-3 c = search (needs, times-fits)
+
+array-write-scaled-3 : tie.Need-array-write-scaled-3
+array-write-scaled-3 c = search needs
+
+returns : tie.Need-returns
+unfolding timesK
+returns c = search needs
+
+pub times-k-spec : {M : Type 1} → statement M
+times-k-spec =
+    tie.close
+    (tie.spec
+    array-read-scaled
+    mul-scaled
+    array-write-scaled
+    array-read-scaled-2
+    mul-scaled-2
+    array-write-scaled-2
+    array-read-scaled-3
+    mul-scaled-3
+    array-write-scaled-3
+    returns)
