@@ -6,7 +6,7 @@ ghost use Rattle.host.specs.Hosting.{advancedOf, refusedImage, isAccepte
 use image::Image;
 use image::bringing::Brought;
 use record::Regulator;
-use stages::showing::FIELDS;
+use showing::FIELDS;
 
 // The 28 outputs, by field.
 #[repr(C)]

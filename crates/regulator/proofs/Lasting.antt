@@ -32,9 +32,9 @@ use Rattle.command.specs.declared.Wait.the-variants.{Idle, For}
 use Rattle.command.specs.Automatic.{delayOf}
 use Rattle.command.proofs.Sound.{Sound}
 use Rattle.record.specs.Limits.{ticksOf, delaysOf, motionWithin, withinOf}
-use Rattle.stages.specs.Accounting.{oneMoreOf, operationsOf}
-use Rattle.stages.specs.Commanding.{askOf}
-use Rattle.stages.specs.Protecting.{organInputOf, organInputsOf}
+use Rattle.acting.specs.Accounting.{oneMoreOf, operationsOf}
+use Rattle.acting.specs.Commanding.{askOf}
+use Rattle.sensing.specs.Protecting.{organInputOf, organInputsOf}
 use Rattle.input.specs.declared.Readings.{Readings}
 
 -- ---- the parts of a record within its limits

@@ -15,20 +15,20 @@ use Rattle.input.specs.Brought.{readingsOf, currentOf}
 use Rattle.organ.specs.declared.Organs.{Organs}
 use Rattle.blocks.specs.declared.Blocks.{Blocks}
 use Rattle.record.specs.declared.Regulator.{Regulator}
-use Rattle.stages.specs.declared.accounting.Accounted.{Accounted}
-use Rattle.stages.specs.declared.assessing.Assessed.{Assessed}
-use Rattle.stages.specs.declared.commanding.Memory.{Memory}
-use Rattle.stages.specs.declared.commanding.Regulated.{Regulated}
-use Rattle.stages.specs.declared.observing.Observed.{Observed}
-use Rattle.stages.specs.declared.showing.Shown.{Shown}
-use Rattle.stages.specs.declared.supervising.Supervised.{Supervised}
-use Rattle.stages.specs.Observing.{observedOf}
-use Rattle.stages.specs.Protecting.{protectedOf}
-use Rattle.stages.specs.Assessing.{assessedOf}
-use Rattle.stages.specs.Supervising.{supervisedOf}
-use Rattle.stages.specs.Commanding.{blockedOf, regulatedOf}
-use Rattle.stages.specs.Accounting.{accountedOf}
-use Rattle.stages.specs.Showing.{outputsOf}
+use Rattle.acting.specs.declared.accounting.Accounted.{Accounted}
+use Rattle.sensing.specs.declared.assessing.Assessed.{Assessed}
+use Rattle.acting.specs.declared.commanding.Memory.{Memory}
+use Rattle.acting.specs.declared.commanding.Regulated.{Regulated}
+use Rattle.sensing.specs.declared.observing.Observed.{Observed}
+use Rattle.showing.specs.declared.Shown.{Shown}
+use Rattle.acting.specs.declared.supervising.Supervised.{Supervised}
+use Rattle.sensing.specs.Observing.{observedOf}
+use Rattle.sensing.specs.Protecting.{protectedOf}
+use Rattle.sensing.specs.Assessing.{assessedOf}
+use Rattle.acting.specs.Supervising.{supervisedOf}
+use Rattle.acting.specs.Commanding.{blockedOf, regulatedOf}
+use Rattle.acting.specs.Accounting.{accountedOf}
+use Rattle.showing.specs.Showing.{outputsOf}
 use Rattle.regulator.specs.declared.Acted.{Acted}
 use Rattle.regulator.specs.declared.Sensed.{Sensed}
 use Rattle.regulator.specs.declared.Ticked.{Ticked}

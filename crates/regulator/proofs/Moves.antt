@@ -13,8 +13,8 @@ use Rattle.input.specs.declared.Input.{Input}
 use Rattle.command.specs.declared.Decided.{Decided}
 use Rattle.command.proofs.Sound.{decided-idle}
 use Rattle.record.specs.declared.Regulator.{Regulator}
-use Rattle.stages.specs.Commanding.{askOf, situationOf}
-use Rattle.stages.specs.Supervising.{contactOf}
+use Rattle.acting.specs.Commanding.{askOf, situationOf}
+use Rattle.acting.specs.Supervising.{contactOf}
 use Rattle.regulator.specs.declared.Ticked.{Ticked}
 use Rattle.regulator.specs.Lists.{Lasting, closed}
 use Rattle.regulator.proofs.Shown.{supervisedAt, situationAt, live-drive}

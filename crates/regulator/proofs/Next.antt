@@ -30,11 +30,11 @@ use Rattle.command.proofs.Sound.{Sound, decided-sound, modeBlocked}
 use Rattle.record.specs.Limits.{motionWithin, countsWithin, withinOf, delaysOf}
 use Rattle.record.specs.declared.Regulator.{Regulator}
 use Rattle.record.proofs.Starts.{fresh-within}
-use Rattle.stages.specs.Accounting.{accountedOf}
-use Rattle.stages.specs.Commanding.{blockedOf, askOf, situationOf, decisionOf, regulatedOf}
-use Rattle.stages.specs.Protecting.{protectedOf}
-use Rattle.stages.specs.Supervising.{contactOf, clearedOf, followedOf, supervisedOf}
-use Rattle.stages.specs.declared.supervising.Supervised.{Supervised}
+use Rattle.acting.specs.Accounting.{accountedOf}
+use Rattle.acting.specs.Commanding.{blockedOf, askOf, situationOf, decisionOf, regulatedOf}
+use Rattle.sensing.specs.Protecting.{protectedOf}
+use Rattle.acting.specs.Supervising.{contactOf, clearedOf, followedOf, supervisedOf}
+use Rattle.acting.specs.declared.supervising.Supervised.{Supervised}
 use Rattle.regulator.specs.declared.Sensed.{Sensed}
 use Rattle.regulator.specs.declared.Ticked.{Ticked}
 use Rattle.regulator.specs.Ticks.{sensedOf, protectedIn, supervisedIn, blockedIn, memoryOf, regulatedIn, accountedIn, actedOf, nextOf, endOf, ranOf, isOut, outOf, refusedOf, tickOf}

@@ -27,10 +27,10 @@ use Rattle.command.specs.declared.Situation.{Situation}
 use Rattle.command.specs.Automatic.{opposedOf}
 use Rattle.command.specs.Deciding.{decidedOf}
 use Rattle.record.specs.declared.Regulator.{Regulator}
-use Rattle.stages.specs.declared.supervising.Supervised.{Supervised}
-use Rattle.stages.specs.Commanding.{sideOf, askOf, situationOf, decisionOf, regulatedOf}
-use Rattle.stages.specs.Showing as showing
-use Rattle.stages.specs.Showing.{isLow, isHigh, signalsOf, fieldsOf, outputsOf}
+use Rattle.acting.specs.declared.supervising.Supervised.{Supervised}
+use Rattle.acting.specs.Commanding.{sideOf, askOf, situationOf, decisionOf, regulatedOf}
+use Rattle.showing.specs.Showing as showing
+use Rattle.showing.specs.Showing.{isLow, isHigh, signalsOf, fieldsOf, outputsOf}
 use Rattle.regulator.specs.declared.Sensed.{Sensed}
 use Rattle.regulator.specs.declared.Ticked.{Ticked}
 use Rattle.regulator.specs.Lists.{output, commandField, blockField, sideField}

@@ -22,9 +22,9 @@ use Rattle.command.specs.Automatic.{waitedOf, opposedOf}
 use Rattle.record.specs.declared.Regulator.{Regulator}
 use Rattle.record.specs.Limits.{withinOf}
 use Rattle.record.specs.Starting.{freshOf}
-use Rattle.stages.specs.Commanding.{blockedOf, sideOf}
-use Rattle.stages.specs.Showing as showing
-use Rattle.stages.specs.Supervising.{contactOf, clearedOf, followedOf, supervisedOf}
+use Rattle.acting.specs.Commanding.{blockedOf, sideOf}
+use Rattle.showing.specs.Showing as showing
+use Rattle.acting.specs.Supervising.{contactOf, clearedOf, followedOf, supervisedOf}
 use Rattle.regulator.specs.declared.Ticked.{Ticked}
 use Rattle.regulator.specs.Ticks.{supervisedIn, blockedIn, isOut, outOf, refusedOf, tickOf}
 use Rattle.regulator.specs.Lists.{output, Tick, restAfter, blockField, sideField, Lasting}

@@ -36,9 +36,9 @@ use Rattle.command.proofs.Sound.{Waits, decided-sound, decided-waits}
 use Rattle.record.specs.declared.Regulator.{Regulator}
 use Rattle.record.specs.Limits.{withinOf}
 use Rattle.record.specs.Starting.{freshOf}
-use Rattle.stages.specs.Commanding.{askOf, situationOf}
-use Rattle.stages.specs.Showing as showing
-use Rattle.stages.specs.Supervising.{contactOf}
+use Rattle.acting.specs.Commanding.{askOf, situationOf}
+use Rattle.showing.specs.Showing as showing
+use Rattle.acting.specs.Supervising.{contactOf}
 use Rattle.regulator.specs.declared.Ticked.{Ticked}
 use Rattle.regulator.specs.Ticks.{isOut, outOf, tickOf}
 use Rattle.regulator.specs.Lists.{output, commandField, blockField, sideField, modeField, Begins, Waiting, NoWait, delayIn, longest, closed}

@@ -12,14 +12,14 @@ use organ::Organs;
 use record::Regulator;
 use slots::IN_SERVICE;
 use slots::SLOTS;
-use stages::accounting::Accounted;
-use stages::assessing::Assessed;
-use stages::commanding::Memory;
-use stages::commanding::Regulated;
-use stages::observing::Observed;
-use stages::showing::FIELDS;
-use stages::showing::Shown;
-use stages::supervising::Supervised;
+use acting::accounting::Accounted;
+use sensing::assessing::Assessed;
+use acting::commanding::Memory;
+use acting::commanding::Regulated;
+use sensing::observing::Observed;
+use showing::FIELDS;
+use showing::Shown;
+use acting::supervising::Supervised;
 
 // What a tick answers: 0, or the refusal 4 with outputs all 0.
 pub struct Reply {
@@ -54,10 +54,10 @@ fn sense(r: Regulator, i: Input, c: Contacts) -> Sensed
 {
     let s = r.settings;
     let before = r.organs;
-    let observed = stages::observing::observe(&s, i, c.breaker_closed, r.counted_tap);
+    let observed = sensing::observing::observe(&s, i, c.breaker_closed, r.counted_tap);
     let readings = observed.readings;
-    let organs = stages::protecting::protect(&s, before, readings, observed.section);
-    let assessed = stages::assessing::assess(&s, readings, c);
+    let organs = sensing::protecting::protect(&s, before, readings, observed.section);
+    let assessed = sensing::assessing::assess(&s, readings, c);
     Sensed {
         observed: observed,
         organs: organs,
@@ -95,10 +95,10 @@ fn act(r: Regulator, c: Contacts, x: Sensed) -> Acted
     let trips = organs.trips;
     let assessed = x.assessed;
     let level = assessed.level;
-    let supervised = stages::supervising::supervise(&s, c, position.tap, drive, latch, last);
+    let supervised = acting::supervising::supervise(&s, c, position.tap, drive, latch, last);
     let latched = supervised.latch;
     let fault = latched.fault;
-    let blocks = stages::commanding::block(
+    let blocks = acting::commanding::block(
         &s,
         c,
         fault,
@@ -109,9 +109,9 @@ fn act(r: Regulator, c: Contacts, x: Sensed) -> Acted
     );
     let m = memory_of(r);
     let followed = supervised.drive;
-    let regulated = stages::commanding::regulate(&s, c, assessed, blocks, m, followed);
+    let regulated = acting::commanding::regulate(&s, c, assessed, blocks, m, followed);
     let ended = supervised.ended;
-    let accounted = stages::accounting::account(&s, ended, last, r.operations, r.counted_tap);
+    let accounted = acting::accounting::account(&s, ended, last, r.operations, r.counted_tap);
     Acted {
         supervised: supervised,
         blocks: blocks,
@@ -191,7 +191,7 @@ fn live(r: Regulator, i: Input, c: Contacts) -> Ticked
     let x = sense(r, i, c);
     let y = act(r, c, x);
     let shown = shown_of(c, x, y);
-    let outputs = stages::showing::show(&s, shown);
+    let outputs = showing::show(&s, shown);
     let next = next_of(r, c, x, y);
     Ticked {
         reply: Reply {

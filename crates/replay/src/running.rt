@@ -9,7 +9,7 @@ use record::Regulator;
 use recording::lines::WIDEST;
 use recording::ticks::Decoded;
 use recording::ticks::TICK;
-use stages::showing::FIELDS;
+use showing::FIELDS;
 
 // Ticks that are read at once.
 const TICKS: usize = 64;

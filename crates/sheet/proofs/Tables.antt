@@ -1,12 +1,11 @@
 -- The constant tables are the columns of the paper's rows, scaled by k, and no product of theirs with k wraps. antt computes it at the
 -- 63 slots, for both modules.
 -- Assumes nothing.
-use mathlib.Core.Path.{_≡_, refl, sym, ap, _∙_}
-use mathlib.Core.Bool.{Bool, true, false, _||_}
-use mathlib.Core.Logic.{⊎-elim}
+use mathlib.Core.Path.{_≡_, refl}
+use mathlib.Core.Bool.{Bool, true, _||_}
 use mathlib.Core.List.{List}
-use Prim.Native.Nat.{ℕ, _*_, _%_, _≤_, _<_}
-use native.Mathlib.Nat.{mod-one, mul-le-mul}
+use Prim.Native.Nat.{ℕ, _*_, _≤_, _<_}
+use native.Mathlib.Nat.{mul-le-mul}
 use native.Mathlib.Omega.{arith}
 use lib.ListN.{getD}
 use lib.Dec.{eqb}
@@ -16,7 +15,6 @@ use mir.Syntax.{w32}
 use mir.Facts.{fits-le, fits-lit}
 use Rattle.common.specs.Choice.{choose}
 use Rattle.common.proofs.Cases.{chosen}
-use Rattle.common.proofs.Joined.{split}
 use Rattle.sheet.specs.Table.{rowOf, rowIn, lowColumn, highColumn, stepColumn, timesK, moduleFactor, factorOf, lowOf, highOf, stepOf}
 use Rattle.sheet.proofs.Every.{every}
 

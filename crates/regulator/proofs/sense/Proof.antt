@@ -4,9 +4,9 @@ use Rattle.regulator.proofs.sense.Statement.{statement}
 use Rattle.regulator.proofs.sense.Tie as tie
 use Rattle.regulator.proofs.sense.Reads as reads
 use Rattle.regulator.proofs.sense.Lts as lts
-use Rattle.stages.proofs.assessing.assess.Reads as assess-reads
-use Rattle.stages.proofs.observing.observe.Reads as observe-reads
-use Rattle.stages.proofs.protecting.protect.Reads as protect-reads
+use Rattle.sensing.proofs.assessing.assess.Reads as assess-reads
+use Rattle.sensing.proofs.observing.observe.Reads as observe-reads
+use Rattle.sensing.proofs.protecting.protect.Reads as protect-reads
 
 -- src/lib.rt:56:9
 observe-requires : tie.Need-observe-requires

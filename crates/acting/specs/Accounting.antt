@@ -1,0 +1,28 @@
+-- Rule 7 of 01: "an ended move, fast or not, becomes the last direction, adds 1 to operations .. and .. steps the counted tap". Definitions only.
+use Prim.Native.Nat.{ℕ, _+_}
+use mathlib.Core.List.{List}
+use lib.Dec.{ltb, eqb}
+use Rattle.common.specs.Choice.{choose}
+use Rattle.slots.specs.Slots.{slot, wearCount}
+use Rattle.drive.specs.declared.Way.{Way}
+use Rattle.drive.specs.declared.Way.the-variants.{Neither, To}
+use Rattle.drive.specs.Ways.{newerOf}
+use Rattle.tap.specs.Counted.{countedOf}
+use Rattle.acting.specs.declared.accounting.Accounted.{Accounted}
+
+-- "adds 1 to operations if slot 17 (held at 999,999)"
+unfoldable pub oneMoreOf : List ℕ → ℕ → ℕ
+oneMoreOf s n = choose (eqb (slot s wearCount) 1) (choose (ltb n 999999) (n + 1) 999999) n
+
+unfoldable pub operationsOf : List ℕ → ℕ → Way → ℕ
+operationsOf s n Neither = n
+operationsOf s n (To d) = oneMoreOf s n
+
+unfoldable pub accountedOf : List ℕ → Way → Way → ℕ → ℕ → Accounted
+accountedOf s ended last operations tap =
+    record {
+      last = newerOf ended last;
+      operations = operationsOf s operations ended;
+      tap = countedOf s tap ended .tap;
+      «range_error» = countedOf s tap ended .«range_error»;
+    }

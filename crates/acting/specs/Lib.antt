@@ -1,0 +1,3 @@
+pub mod Supervising
+pub mod Commanding
+pub mod Accounting

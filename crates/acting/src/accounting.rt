@@ -1,0 +1,47 @@
+// Rule 7: what an ended move leaves: the last direction, the operations, the counted tap.
+ghost use mathlib.Core.Path.{_≡_};
+ghost use Rattle.acting.specs.Accounting.{oneMoreOf, operationsOf, accountedOf};
+use drive::Way;
+use slots::SLOTS;
+use slots::WEAR_COUNT;
+
+pub struct Accounted {
+    pub last: Way,
+    pub operations: u32,
+    pub tap: u32,
+    pub range_error: bool,
+}
+
+// One operation more, held at 999,999, if the wear count is on.
+fn one_more(s: &[u32; SLOTS], n: u32) -> u32
+    ensures { λ r. ⌜ r ≡ oneMoreOf (now (s .entry)) n ⌝ }
+{
+    if s[WEAR_COUNT] == 1 {
+        if n < 999999 { n + 1 } else { 999999 }
+    } else {
+        n
+    }
+}
+
+fn count_operation(s: &[u32; SLOTS], n: u32, ended: Way) -> u32
+    ensures { λ r. ⌜ r ≡ operationsOf (now (s .entry)) n ended ⌝ }
+{
+    match ended {
+        Way::Neither => n,
+        Way::To(_) => one_more(s, n),
+    }
+}
+
+pub fn account(s: &[u32; SLOTS], ended: Way, last: Way, operations: u32, tap: u32) -> Accounted
+    ensures { λ r. ⌜ r ≡ accountedOf (now (s .entry)) ended last operations tap ⌝ }
+{
+    let latest = drive::ways::newer(ended, last);
+    let n = count_operation(s, operations, ended);
+    let counted = tap::counted::count_move(s, tap, ended);
+    Accounted {
+        last: latest,
+        operations: n,
+        tap: counted.tap,
+        range_error: counted.range_error,
+    }
+}

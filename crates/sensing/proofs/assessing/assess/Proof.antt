@@ -1,0 +1,30 @@
+use Rattle.sensing.specs.Assessing.{assessedOf, uOf}
+use borrow.Author.Needs.{needs}
+use Rattle.sensing.proofs.assessing.assess.Statement.{statement}
+use Rattle.sensing.proofs.assessing.assess.Tie as tie
+
+voltage-requires : tie.Need-voltage-requires
+voltage-requires c κs = search needs
+
+supply-voltage-requires : tie.Need-supply-voltage-requires
+supply-voltage-requires c κs = search needs
+
+judge-level-requires : tie.Need-judge-level-requires
+judge-level-requires c κs = search needs
+
+far-above-requires : tie.Need-far-above-requires
+far-above-requires c κs = search needs
+
+returns : tie.Need-returns
+unfolding assessedOf uOf
+returns c = cc
+
+pub assess-spec : {M : Type 1} → statement M
+assess-spec =
+    tie.close
+    (tie.spec
+    voltage-requires
+    supply-voltage-requires
+    judge-level-requires
+    far-above-requires
+    returns)
