@@ -6,7 +6,7 @@ use mathlib.Core.List.{List}
 use Prim.Native.Nat.{ℕ}
 use Rattle.input.specs.declared.Contacts.{Contacts}
 use Rattle.drive.specs.declared.Drive.{Drive}
-use Rattle.drive.specs.declared.Way.{Way}
+use Rattle.ways.specs.declared.Way.{Way}
 use Rattle.blocks.specs.declared.Blocks.{Blocks}
 use Rattle.command.specs.declared.Decided.{Decided}
 use Rattle.command.specs.declared.Situation.{Situation}

@@ -4,9 +4,9 @@ use mathlib.Core.List.{List}
 use lib.Dec.{ltb, eqb}
 use Rattle.common.specs.Choice.{choose}
 use Rattle.slots.specs.Slots.{slot, wearCount}
-use Rattle.drive.specs.declared.Way.{Way}
-use Rattle.drive.specs.declared.Way.the-variants.{Neither, To}
-use Rattle.drive.specs.Ways.{newerOf}
+use Rattle.ways.specs.declared.Way.{Way}
+use Rattle.ways.specs.declared.Way.the-variants.{Neither, To}
+use Rattle.ways.specs.Ways.{newerOf}
 use Rattle.tap.specs.Counted.{countedOf}
 use Rattle.acting.specs.declared.accounting.Accounted.{Accounted}
 

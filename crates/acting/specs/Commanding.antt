@@ -5,14 +5,14 @@ use mathlib.Core.List.{List}
 use Rattle.input.specs.declared.Contacts.{Contacts}
 use Rattle.busbar.specs.declared.voltage.Level.{Level}
 use Rattle.busbar.specs.declared.voltage.Level.the-variants.{Missing, Low, InBand, High}
-use Rattle.drive.specs.declared.Direction.the-variants.{Raise, Lower}
+use Rattle.ways.specs.declared.Direction.the-variants.{Raise, Lower}
 use Rattle.drive.specs.declared.Drive.{Drive}
 use Rattle.drive.specs.declared.Drive.the-variants.{Asked}
-use Rattle.drive.specs.declared.Fault.{Fault}
-use Rattle.drive.specs.declared.Way.{Way}
-use Rattle.drive.specs.declared.Way.the-variants.{Neither, To}
+use Rattle.fault.specs.declared.Fault.{Fault}
+use Rattle.ways.specs.declared.Way.{Way}
+use Rattle.ways.specs.declared.Way.the-variants.{Neither, To}
 use Rattle.drive.specs.Follow.{restsOf}
-use Rattle.drive.specs.Latches.{isFault}
+use Rattle.fault.specs.Latches.{isFault}
 use Rattle.blocks.specs.declared.Blocks.{Blocks}
 use Rattle.blocks.specs.Blocked.{blocksOf}
 use Rattle.command.specs.declared.Decided.{Decided}

@@ -4,12 +4,12 @@ use mathlib.Core.List.{List}
 use Rattle.slots.specs.Slots.{slot, t4, t5, t6, t8}
 use Rattle.input.specs.declared.Contacts.{Contacts}
 use Rattle.drive.specs.declared.Drive.{Drive}
-use Rattle.drive.specs.declared.Latch.{Latch}
-use Rattle.drive.specs.declared.Way.{Way}
+use Rattle.fault.specs.declared.Latch.{Latch}
+use Rattle.ways.specs.declared.Way.{Way}
 use Rattle.drive.specs.declared.follow.Contact.{Contact}
 use Rattle.drive.specs.declared.follow.Followed.{Followed}
 use Rattle.drive.specs.Follow.{followOf}
-use Rattle.drive.specs.Latches.{isFault, resetOf, latchedOf}
+use Rattle.fault.specs.Latches.{isFault, resetOf, latchedOf}
 use Rattle.tap.specs.Sliding.{slidingOf}
 use Rattle.acting.specs.declared.supervising.Supervised.{Supervised}
 

@@ -1,9 +1,9 @@
 // Rule 7: what an ended move leaves: the last direction, the operations, the counted tap.
 ghost use mathlib.Core.Path.{_≡_};
 ghost use Rattle.acting.specs.Accounting.{oneMoreOf, operationsOf, accountedOf};
-use drive::Way;
 use slots::SLOTS;
 use slots::WEAR_COUNT;
+use ways::Way;
 
 pub struct Accounted {
     pub last: Way,
@@ -35,7 +35,7 @@ fn count_operation(s: &[u32; SLOTS], n: u32, ended: Way) -> u32
 pub fn account(s: &[u32; SLOTS], ended: Way, last: Way, operations: u32, tap: u32) -> Accounted
     ensures { λ r. ⌜ r ≡ accountedOf (now (s .entry)) ended last operations tap ⌝ }
 {
-    let latest = drive::ways::newer(ended, last);
+    let latest = ways::newer(ended, last);
     let n = count_operation(s, operations, ended);
     let counted = tap::counted::count_move(s, tap, ended);
     Accounted {

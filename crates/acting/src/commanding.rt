@@ -1,19 +1,19 @@
 // Rule 8, the blocks; rule 9, the wait and the command.
 ghost use mathlib.Core.Path.{_≡_};
 ghost use Rattle.acting.specs.Commanding.{sideOf, isMissing, isInBand, blockedOf, askOf, situationOf, regulatedOf};
-use sensing::assessing::Assessed;
 use blocks::Blocks;
 use blocks::Found;
 use busbar::voltage::Level;
 use command::Buttons;
 use command::Situation;
 use command::Wait;
-use drive::Direction;
 use drive::Drive;
-use drive::Fault;
-use drive::Way;
+use fault::Fault;
 use input::Contacts;
+use sensing::assessing::Assessed;
 use slots::SLOTS;
+use ways::Direction;
+use ways::Way;
 
 // The command that a deviation asks for: low a raise, high a lower.
 pub fn side_of(l: Level) -> Way
@@ -61,7 +61,7 @@ pub fn block(
 ) -> Blocks
     ensures { λ r. ⌜ r ≡ blockedOf (now (s .entry)) c f section l trips tap ⌝ }
 {
-    let fault = drive::latching::is_fault(f);
+    let fault = fault::is_fault(f);
     let missing = is_missing(l);
     let found = Found {
         fault: fault,

@@ -2,15 +2,15 @@
 ghost use mathlib.Core.Path.{_≡_};
 ghost use Rattle.acting.specs.Supervising.{contactOf, supervisedOf};
 use drive::Drive;
-use drive::Latch;
-use drive::Way;
 use drive::follow::Contact;
+use fault::Latch;
 use input::Contacts;
 use slots::SLOTS;
 use slots::T4;
 use slots::T5;
 use slots::T6;
 use slots::T8;
+use ways::Way;
 
 // The drive after the rule, the move that ended, the latch, and the fault's age before this tick.
 pub struct Supervised {
@@ -25,7 +25,7 @@ fn contact_of(s: &[u32; SLOTS], c: Contacts, tap: u32, l: Latch, last: Way) -> C
     ensures { λ r. ⌜ r ≡ contactOf (now (s .entry)) c tap l last ⌝ }
 {
     let f = l.fault;
-    let faulty = drive::latching::is_fault(f);
+    let faulty = fault::is_fault(f);
     let sliding = tap::sliding::is_sliding(s, tap);
     Contact {
         local: c.local_drive,
@@ -50,11 +50,11 @@ pub fn supervise(
 ) -> Supervised
     ensures { λ r. ⌜ r ≡ supervisedOf (now (s .entry)) c tap d l last ⌝ }
 {
-    let cleared = drive::latching::reset(l, c.reset);
+    let cleared = fault::reset(l, c.reset);
     let x = contact_of(s, c, tap, cleared, last);
     let moved = drive::follow::follow(d, x);
     let new = moved.fault;
-    let latch = drive::latching::latched(cleared, new, s[T8]);
+    let latch = fault::latched(cleared, new, s[T8]);
     let drive = moved.drive;
     let ended = moved.ended;
     Supervised {

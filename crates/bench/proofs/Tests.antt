@@ -8,7 +8,7 @@ use borrow.Author.Tests.{eqb-true, not-true}
 use lib.Dec.{eqb}
 use Rattle.slots.specs.Slots.{slot, inService}
 use Rattle.common.proofs.Joined.{and-left, and-right}
-use Rattle.drive.specs.declared.Direction.{Direction}
+use Rattle.ways.specs.declared.Direction.{Direction}
 use Rattle.input.specs.Brought.{bitOf}
 use Rattle.regulator.specs.Lists.{Tick, output, sideField, blockField, All, Lasting, Waiting, InForce, delayIn, closed}
 

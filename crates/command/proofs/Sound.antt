@@ -10,11 +10,11 @@ use borrow.Author.Tests.{leb-false}
 use Rattle.common.specs.Choice.{choose}
 use Rattle.common.proofs.Cases.{yes, no, chosen}
 use Rattle.common.proofs.Joined.{or-left, or-right}
-use Rattle.drive.specs.declared.Direction.{Direction}
-use Rattle.drive.specs.declared.Direction.the-variants.{Raise, Lower}
-use Rattle.drive.specs.declared.Way.{Way}
-use Rattle.drive.specs.declared.Way.the-variants.{Neither, To}
-use Rattle.drive.specs.Ways.{raises, lowers}
+use Rattle.ways.specs.declared.Direction.{Direction}
+use Rattle.ways.specs.declared.Direction.the-variants.{Raise, Lower}
+use Rattle.ways.specs.declared.Way.{Way}
+use Rattle.ways.specs.declared.Way.the-variants.{Neither, To}
+use Rattle.ways.specs.Ways.{raises, lowers}
 use Rattle.command.specs.declared.Wait.the-variants.{Idle, For}
 use Rattle.command.specs.declared.Situation.{Situation}
 use Rattle.command.specs.declared.Decided.{Decided}

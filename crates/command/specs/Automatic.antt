@@ -5,11 +5,11 @@ use mathlib.Core.List.{List}
 use lib.Dec.{leb}
 use Rattle.common.specs.Choice.{choose}
 use Rattle.slots.specs.Slots.{slot, t1, t2, t3}
-use Rattle.drive.specs.declared.Direction.{Direction}
-use Rattle.drive.specs.declared.Direction.the-variants.{Raise, Lower}
-use Rattle.drive.specs.declared.Way.{Way}
-use Rattle.drive.specs.declared.Way.the-variants.{Neither, To}
-use Rattle.drive.specs.Ways.{lowers, isTo, otherOf, newerOf}
+use Rattle.ways.specs.declared.Direction.{Direction}
+use Rattle.ways.specs.declared.Direction.the-variants.{Raise, Lower}
+use Rattle.ways.specs.declared.Way.{Way}
+use Rattle.ways.specs.declared.Way.the-variants.{Neither, To}
+use Rattle.ways.specs.Ways.{lowers, isTo, otherOf, newerOf}
 use Rattle.blocks.specs.declared.Blocks.{Blocks}
 use Rattle.command.specs.declared.Wait.{Wait}
 use Rattle.command.specs.declared.Wait.the-variants.{Idle, For}

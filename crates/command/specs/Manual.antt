@@ -1,10 +1,10 @@
 -- Rule 9 of 01 in manual mode. Definitions only.
 use mathlib.Core.Bool.{not, _&&_, _||_}
 use Rattle.common.specs.Choice.{choose}
-use Rattle.drive.specs.declared.Direction.the-variants.{Raise, Lower}
-use Rattle.drive.specs.declared.Way.{Way}
-use Rattle.drive.specs.declared.Way.the-variants.{Neither, To}
-use Rattle.drive.specs.Ways.{raises, lowers}
+use Rattle.ways.specs.declared.Direction.the-variants.{Raise, Lower}
+use Rattle.ways.specs.declared.Way.{Way}
+use Rattle.ways.specs.declared.Way.the-variants.{Neither, To}
+use Rattle.ways.specs.Ways.{raises, lowers}
 use Rattle.command.specs.declared.Buttons.{Buttons}
 use Rattle.command.specs.declared.Wait.the-variants.{Idle}
 use Rattle.command.specs.declared.Situation.{Situation}

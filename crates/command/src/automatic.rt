@@ -5,17 +5,17 @@ use crate::Decided;
 use crate::Situation;
 use crate::Wait;
 use blocks::Blocks;
-use drive::Direction;
-use drive::Way;
 use slots::SLOTS;
 use slots::T1;
 use slots::T2;
 use slots::T3;
+use ways::Direction;
+use ways::Way;
 
 fn ticks_to(w: Way, d: Direction, ticks: u32) -> u32
     ensures { λ r. ⌜ r ≡ ticksOf d w ticks ⌝ }
 {
-    if drive::ways::is_to(w, d) { ticks } else { 0 }
+    if ways::is_to(w, d) { ticks } else { 0 }
 }
 
 // The ticks that were waited for a command of this direction, 0 on a new side.
@@ -41,14 +41,10 @@ pub fn opposes(b: Blocks, d: Direction) -> bool
 pub fn delay_in_force(s: &[u32; SLOTS], d: Direction, far: bool, repeat: Way) -> u32
     ensures { λ r. ⌜ r ≡ delayOf (now (s .entry)) d far repeat ⌝ }
 {
-    if drive::ways::to_lower(Way::To(d)) & far {
+    if ways::to_lower(Way::To(d)) & far {
         return s[T3];
     }
-    if drive::ways::is_to(repeat, d) {
-        s[T2]
-    } else {
-        s[T1]
-    }
+    if ways::is_to(repeat, d) { s[T2] } else { s[T1] }
 }
 
 // One tick more of the wait: a command once it has reached the delay.
@@ -110,7 +106,7 @@ pub fn automatic_mode(s: &[u32; SLOTS], x: Situation) -> Decided
 fn kept(in_band: bool, side: Way, old: Way) -> Way
     ensures { λ r. ⌜ r ≡ keptOf «in_band» side old ⌝ }
 {
-    let other = drive::ways::opposite(side, old);
+    let other = ways::opposite(side, old);
     if in_band | other { Way::Neither } else { old }
 }
 
@@ -119,6 +115,6 @@ pub fn next_repeat(automatic: bool, in_band: bool, side: Way, command: Way, old:
     ensures { λ r. ⌜ r ≡ repeatOf automatic «in_band» side command old ⌝ }
 {
     let still = kept(in_band, side, old);
-    let latest = drive::ways::newer(command, still);
+    let latest = ways::newer(command, still);
     if automatic { latest } else { Way::Neither }
 }

@@ -7,9 +7,9 @@ pub mod automatic;
 pub mod manual;
 
 use blocks::Blocks;
-use drive::Direction;
-use drive::Way;
 use slots::SLOTS;
+use ways::Direction;
+use ways::Way;
 
 // The ticks for which a deviation has been waited for, on the side that a command of this direction answers.
 pub enum Wait {

@@ -5,8 +5,8 @@ use crate::Buttons;
 use crate::Decided;
 use crate::Situation;
 use crate::Wait;
-use drive::Direction;
-use drive::Way;
+use ways::Direction;
+use ways::Way;
 
 // Exactly one button pressed, and that one not on the previous tick.
 pub fn pressed(now: Buttons, before: Buttons) -> Way
@@ -30,8 +30,8 @@ pub fn manual_mode(x: Situation) -> Decided
     let now = x.buttons;
     let before = x.before;
     let press = pressed(now, before);
-    let raises = drive::ways::to_raise(press);
-    let lowers = drive::ways::to_lower(press);
+    let raises = ways::to_raise(press);
+    let lowers = ways::to_lower(press);
     if (raises & !b.manual & !b.raise) | (lowers & !b.manual & !b.lower) {
         Decided {
             command: press,

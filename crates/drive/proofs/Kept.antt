@@ -1,24 +1,20 @@
 -- A tick keeps the limits of the drive, and a fault that arises brings rest.
 -- Assumes nothing.
 use mathlib.Core.Path.{_≡_, refl}
-use mathlib.Core.Bool.{Bool, true, false, _||_}
+use mathlib.Core.Bool.{Bool, true, false}
 use Prim.Native.Nat.{ℕ, _+_, _≤_}
 use native.Mathlib.Omega.{arith}
-use borrow.Author.Tests.{ltb-true, leb-true, le-leb}
-use lib.Dec.{eqb}
-use Rattle.common.specs.Choice.{choose}
+use borrow.Author.Tests.{leb-true, le-leb}
 use Rattle.common.proofs.Cases.{no, either, chosen}
 use Rattle.common.proofs.Joined.{and-false}
 use Rattle.drive.specs.Follow.{unmovedOf, faultyOf, endedOf, ownOf, restOf, askedOf, movingOf, supervisedOf, followOf, restsOf, withinOf}
-use Rattle.drive.specs.Latches.{isFault, laterOf, ageOf, latchedOf, latchWithin}
-use Rattle.drive.specs.declared.Direction.{Direction}
+use Rattle.fault.specs.Latches.{isFault}
+use Rattle.ways.specs.declared.Direction.{Direction}
 use Rattle.drive.specs.declared.Drive.{Drive}
 use Rattle.drive.specs.declared.Drive.the-variants.{Resting, Asked, Moving}
-use Rattle.drive.specs.declared.Fault.{Fault}
-use Rattle.drive.specs.declared.Fault.the-variants.{NoFault, RunAway, NotStarted, Long, Fast}
-use Rattle.drive.specs.declared.Latch.{Latch}
-use Rattle.drive.specs.declared.Way.{Way}
-use Rattle.drive.specs.declared.Way.the-variants.{Neither, To}
+use Rattle.fault.specs.declared.Fault.{Fault}
+use Rattle.ways.specs.declared.Way.{Way}
+use Rattle.ways.specs.declared.Way.the-variants.{Neither, To}
 use Rattle.drive.specs.declared.follow.Contact.{Contact}
 use Rattle.drive.specs.declared.follow.Followed.{Followed}
 
@@ -76,21 +72,3 @@ unfolding followOf supervisedOf restOf
 faulty-stays x Resting p q = either _ _ _ (x .local) refl (no _ _ _ _ (rw p (and-false (x .closed))) refl)
 faulty-stays x (Asked d n) p q = let z : _≡_ {A = Bool} false true = q in cc
 faulty-stays x (Moving d n m) p q = let z : _≡_ {A = Bool} false true = q in cc
-
--- the latch stays within its limits
-age-le : (f : Fault) (n t8 : ℕ) → ageOf f n t8 ≤ t8
-unfolding ageOf
-age-le f n t8 =
-    chosen (λ k. k ≤ t8) _ _ _ (λ p. chosen (λ k. k ≤ t8) _ _ _ (λ q. omega (arith, ltb-true n t8 q)) (λ q. omega arith)) (λ p. omega arith)
-
-age-none : (f : Fault) (n t8 : ℕ) → (isFault f || eqb (ageOf f n t8) 0) ≡ true
-unfolding ageOf choose
-age-none NoFault n t8 = refl
-age-none RunAway n t8 = refl
-age-none NotStarted n t8 = refl
-age-none Long n t8 = refl
-age-none Fast n t8 = refl
-
-pub latched-within : (l : Latch) (new : Fault) (t8 : ℕ) → latchWithin (latchedOf l new t8) t8 ≡ true
-unfolding latchedOf
-latched-within l new t8 = rw (le-leb _ _ (age-le (laterOf (l .fault) new) (l .age) t8)) (age-none (laterOf (l .fault) new) (l .age) t8)

@@ -1,23 +1,20 @@
 -- How a drive with a switching contact goes from rest, asked and moving, where it is supervised and no fault arises.
 -- Assumes nothing.
-use mathlib.Core.Path.{_≡_, refl, sym, ap, subst, _∙_}
+use mathlib.Core.Path.{_≡_, refl, sym, ap, subst}
 use mathlib.Core.Bool.{Bool, true, false, _&&_, true≢false, false≢true}
 use Prim.Native.Nat.{ℕ, _+_}
 use lib.Dec.{ltb, leb}
 use Rattle.common.specs.Choice.{choose}
 use Rattle.common.proofs.Cases.{yes, no, either, chosen}
 use Rattle.drive.specs.Follow.{unmovedOf, faultyOf, endedOf, ownOf, restOf, askedOf, movingOf, supervisedOf, followOf, restsOf}
-use Rattle.drive.specs.Latches.{isFault, laterOf}
+use Rattle.fault.specs.Latches.{isFault}
 use Rattle.drive.specs.Shown.{onOf}
-use Rattle.drive.specs.Ways.{raises, lowers, isTo}
-use Rattle.drive.specs.declared.Direction.{Direction}
-use Rattle.drive.specs.declared.Direction.the-variants.{Raise, Lower}
-use Rattle.drive.specs.declared.Fault.{Fault}
+use Rattle.ways.specs.declared.Direction.{Direction}
 use Rattle.drive.specs.declared.Drive.{Drive}
 use Rattle.drive.specs.declared.Drive.the-variants.{Resting, Asked, Moving}
-use Rattle.drive.specs.declared.Fault.the-variants.{NoFault, RunAway, NotStarted, Long, Fast}
-use Rattle.drive.specs.declared.Way.{Way}
-use Rattle.drive.specs.declared.Way.the-variants.{Neither, To}
+use Rattle.fault.specs.declared.Fault.the-variants.{NoFault, RunAway, NotStarted, Long, Fast}
+use Rattle.ways.specs.declared.Way.{Way}
+use Rattle.ways.specs.declared.Way.the-variants.{Neither, To}
 use Rattle.drive.specs.declared.follow.Contact.{Contact}
 use Rattle.drive.specs.declared.follow.Followed.{Followed}
 
@@ -113,30 +110,3 @@ module _ (k : Contact) where
     moving-open c =
         subst (λ (o : Followed). o .drive ≡ Resting) (no _ _ _ _ l (no _ _ _ _ c refl))
         (chosen (λ (o : Followed). o .drive ≡ Resting) (m && ltb a (k .t6)) (endedOf e Fast) (endedOf e NoFault) (λ p. refl) (λ p. refl))
-
--- no fault after a tick: none arose, and none was latched
-pub later-none : (old new : Fault) → isFault (laterOf old new) ≡ false → (isFault new ≡ false) × (isFault old ≡ false)
-unfolding laterOf
-later-none old new =
-    chosen (λ (f : Fault). isFault f ≡ false → (isFault new ≡ false) × (isFault old ≡ false)) (isFault new) new old
-    (λ p e. absurd (true≢false (sym p ∙ e))) (λ p e. (p, e))
-
--- a command is on to one side only
-pub one-way : (w : Way) → raises w ≡ true → lowers w ≡ true → ⊥
-one-way Neither p q = false≢true p
-one-way (To Raise) p q = false≢true q
-one-way (To Lower) p q = false≢true p
-
-pub is-to-self : (d : Direction) → isTo d (To d) ≡ true
-is-to-self Raise = refl
-is-to-self Lower = refl
-
-pub is-to-is : (d e : Direction) → isTo d (To e) ≡ true → e ≡ d
-is-to-is Raise Raise p = refl
-is-to-is Raise Lower p = absurd (false≢true p)
-is-to-is Lower Raise p = absurd (false≢true p)
-is-to-is Lower Lower p = refl
-
-pub is-to-neither : (d : Direction) → isTo d Neither ≡ false
-is-to-neither Raise = refl
-is-to-neither Lower = refl

@@ -8,13 +8,12 @@ use Rattle.common.specs.Choice.{choose}
 use Rattle.common.proofs.Cases.{cases}
 use Rattle.drive.specs.Follow.{faultyOf, unmovedOf, ownOf, restOf, askedOf, movingOf, supervisedOf, withinOf}
 use Rattle.drive.specs.Shown.{onOf}
-use Rattle.drive.specs.Ways.{newerOf}
-use Rattle.drive.specs.declared.Direction.{Direction}
+use Rattle.ways.specs.declared.Direction.{Direction}
 use Rattle.drive.specs.declared.Drive.{Drive}
 use Rattle.drive.specs.declared.Drive.the-variants.{Resting, Asked, Moving}
-use Rattle.drive.specs.declared.Fault.the-variants.{RunAway}
-use Rattle.drive.specs.declared.Way.{Way}
-use Rattle.drive.specs.declared.Way.the-variants.{Neither, To}
+use Rattle.fault.specs.declared.Fault.the-variants.{RunAway}
+use Rattle.ways.specs.declared.Way.{Way}
+use Rattle.ways.specs.declared.Way.the-variants.{Neither, To}
 use Rattle.drive.specs.declared.follow.Contact.{Contact}
 use Rattle.drive.specs.declared.follow.Followed.{Followed}
 
@@ -66,14 +65,5 @@ module _ (w : Way) (t7 : ℕ) where
   unfolding onOf
   on-moving s d n m p q = rw p q
 
-module _ (w old : Way) where
-  pub newer-neither : (new : Way) → new ≡ Neither → w ≡ old → w ≡ newerOf new old
-  unfolding newerOf
-  newer-neither new p q = rw p q
-
-  pub newer-to : (new : Way) (d : Direction) → new ≡ To d → w ≡ To d → w ≡ newerOf new old
-  unfolding newerOf
-  newer-to new d p q = rw p q
-
 pub ruleset states =
-    (from-resting, from-asked, from-moving, own-neither, own-to, within-resting, within-asked, within-moving, on-resting, on-asked, on-moving, newer-neither, newer-to, cases)
+    (from-resting, from-asked, from-moving, own-neither, own-to, within-resting, within-asked, within-moving, on-resting, on-asked, on-moving, cases)

@@ -3,13 +3,13 @@ use Prim.Native.Nat.{ℕ, _+_}
 use mathlib.Core.Bool.{Bool, true, false, not, _&&_}
 use lib.Dec.{ltb, leb}
 use Rattle.common.specs.Choice.{choose}
-use Rattle.drive.specs.declared.Direction.{Direction}
-use Rattle.drive.specs.declared.Way.{Way}
-use Rattle.drive.specs.declared.Way.the-variants.{Neither, To}
+use Rattle.ways.specs.declared.Direction.{Direction}
+use Rattle.ways.specs.declared.Way.{Way}
+use Rattle.ways.specs.declared.Way.the-variants.{Neither, To}
 use Rattle.drive.specs.declared.Drive.{Drive}
 use Rattle.drive.specs.declared.Drive.the-variants.{Resting, Asked, Moving}
-use Rattle.drive.specs.declared.Fault.{Fault}
-use Rattle.drive.specs.declared.Fault.the-variants.{NoFault, RunAway, NotStarted, Long, Fast}
+use Rattle.fault.specs.declared.Fault.{Fault}
+use Rattle.fault.specs.declared.Fault.the-variants.{NoFault, RunAway, NotStarted, Long, Fast}
 use Rattle.drive.specs.declared.follow.Contact.{Contact}
 use Rattle.drive.specs.declared.follow.Followed.{Followed}
 

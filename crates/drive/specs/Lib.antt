@@ -1,4 +1,2 @@
 pub mod Follow
-pub mod Latches
 pub mod Shown
-pub mod Ways

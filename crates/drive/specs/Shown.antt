@@ -1,25 +1,15 @@
--- Rule 10 of 01: the command that is on, and which output shows a fault. Definitions only.
+-- Rule 10 of 01: the command that is on. Definitions only.
 use Prim.Native.Nat.{ℕ}
 use mathlib.Core.Bool.{_&&_}
 use lib.Dec.{leb}
 use Rattle.common.specs.Choice.{choose}
-use Rattle.drive.specs.declared.Way.{Way}
-use Rattle.drive.specs.declared.Way.the-variants.{Neither, To}
+use Rattle.ways.specs.declared.Way.{Way}
+use Rattle.ways.specs.declared.Way.the-variants.{Neither, To}
 use Rattle.drive.specs.declared.Drive.{Drive}
 use Rattle.drive.specs.declared.Drive.the-variants.{Resting, Asked, Moving}
-use Rattle.drive.specs.declared.Fault.{Fault}
-use Rattle.drive.specs.declared.Fault.the-variants.{NoFault, RunAway, NotStarted, Long, Fast}
 
 -- "a command is on while asked, and in its move while length ≤ T7": an own move has no command
 unfoldable pub onOf : Drive → ℕ → Way
 onOf Resting t7 = Neither
 onOf (Asked d age) t7 = To d
 onOf (Moving d n commanded) t7 = choose (commanded && leb n t7) (To d) Neither
-
--- outputs "19–22 run-away, not started, long, fast"
-abbrev pub fieldOf : Fault → ℕ
-fieldOf NoFault = 0
-fieldOf RunAway = 19
-fieldOf NotStarted = 20
-fieldOf Long = 21
-fieldOf Fast = 22

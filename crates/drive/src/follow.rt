@@ -1,10 +1,10 @@
 // Rule 7: the drive over one tick, by its switching contact.
 ghost use mathlib.Core.Path.{_≡_};
 ghost use Rattle.drive.specs.Follow.{unmovedOf, faultyOf, endedOf, ownOf, restOf, askedOf, movingOf, followOf, restsOf, withinOf};
-use crate::Direction;
 use crate::Drive;
-use crate::Fault;
-use crate::Way;
+use fault::Fault;
+use ways::Direction;
+use ways::Way;
 
 // What rule 7 goes by. `faulty`: a fault is latched. `sliding`: the tap is a sliding one. `last`: the last direction.
 pub struct Contact {

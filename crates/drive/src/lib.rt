@@ -1,19 +1,8 @@
 // The motor drive of the tap changer: what is known of it between ticks, and how a tick follows it.
 pub mod follow;
-pub mod latching;
 pub mod shown;
-pub mod ways;
 
-pub enum Direction {
-    Raise,
-    Lower,
-}
-
-// A direction, or none.
-pub enum Way {
-    Neither,
-    To(Direction),
-}
+use ways::Direction;
 
 // A command is asked until the switching contact closes, and moving until it opens again. `age` counts the ticks after the
 // command's first, `length` the ticks that the contact has been closed. An own move is one that no command began.
@@ -28,18 +17,4 @@ pub enum Drive {
         length: u32,
         commanded: bool,
     },
-}
-
-pub enum Fault {
-    NoFault,
-    RunAway,
-    NotStarted,
-    Long,
-    Fast,
-}
-
-// The fault that is latched, and the ticks that it has lasted, its first included, held at T8.
-pub struct Latch {
-    pub fault: Fault,
-    pub age: u32,
 }

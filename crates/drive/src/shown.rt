@@ -1,9 +1,8 @@
-// Rule 10: when a command is on. The output that shows a fault.
+// Rule 10: when a command is on.
 ghost use mathlib.Core.Path.{_≡_};
-ghost use Rattle.drive.specs.Shown.{onOf, fieldOf};
+ghost use Rattle.drive.specs.Shown.{onOf};
 use crate::Drive;
-use crate::Fault;
-use crate::Way;
+use ways::Way;
 
 // Rule 10: the command that is on.
 pub fn command_on(d: Drive, t7: u32) -> Way
@@ -23,18 +22,5 @@ pub fn command_on(d: Drive, t7: u32) -> Way
                 Way::Neither
             }
         }
-    }
-}
-
-// The output field of a fault, 0 for none.
-pub fn fault_field(f: Fault) -> u32
-    ensures { λ r. ⌜ r ≡ fieldOf f ⌝ }
-{
-    match f {
-        Fault::NoFault => 0,
-        Fault::RunAway => 19,
-        Fault::NotStarted => 20,
-        Fault::Long => 21,
-        Fault::Fast => 22,
     }
 }

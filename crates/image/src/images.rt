@@ -5,7 +5,7 @@ ghost use Rattle.image.specs.Images.{imageOf, isRecord, stateOf, takenOf
 use crate::FromImage;
 use crate::Image;
 use command::Buttons;
-use drive::Latch;
+use fault::Latch;
 use record::Regulator;
 
 // The one image of a record. It gives the record back.

@@ -18,10 +18,10 @@ ghost use Rattle.image.specs.Numbers.{
 use crate::DriveImage;
 use crate::WaitImage;
 use command::Wait;
-use drive::Direction;
 use drive::Drive;
-use drive::Fault;
-use drive::Way;
+use fault::Fault;
+use ways::Direction;
+use ways::Way;
 
 fn direction_number(d: Direction) -> u32
     ensures { λ n. ⌜ n ≡ directionNumber d ⌝ }

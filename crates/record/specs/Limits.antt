@@ -8,10 +8,10 @@ use Rattle.sheet.specs.Sheet.{passesOf}
 use Rattle.organ.specs.declared.Organ.{Organ}
 use Rattle.organ.specs.Limits.{organsWithin}
 use Rattle.drive.specs.declared.Drive.{Drive}
-use Rattle.drive.specs.declared.Latch.{Latch}
+use Rattle.fault.specs.declared.Latch.{Latch}
 use Rattle.drive.specs.Follow as follow
 use Rattle.drive.specs.Follow.{restsOf}
-use Rattle.drive.specs.Latches.{isFault, latchWithin}
+use Rattle.fault.specs.Latches.{isFault, latchWithin}
 use Rattle.command.specs.declared.Wait.{Wait}
 use Rattle.command.specs.declared.Wait.the-variants.{Idle, For}
 use Rattle.record.specs.declared.Regulator.{Regulator}

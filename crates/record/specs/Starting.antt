@@ -10,8 +10,8 @@ use Rattle.sheet.specs.declared.Answer.{Answer}
 use Rattle.sheet.specs.Sheet.{numberOf, slotOf, isTaken, Reply, returnedOf}
 use Rattle.organ.specs.Runs.{cleared}
 use Rattle.drive.specs.declared.Drive.the-variants.{Resting}
-use Rattle.drive.specs.declared.Fault.the-variants.{NoFault}
-use Rattle.drive.specs.declared.Way.the-variants.{Neither}
+use Rattle.fault.specs.declared.Fault.the-variants.{NoFault}
+use Rattle.ways.specs.declared.Way.the-variants.{Neither}
 use Rattle.command.specs.declared.Wait.the-variants.{Idle}
 use Rattle.record.specs.declared.Regulator.{Regulator}
 use Rattle.record.specs.declared.starting.Started.{Started}

@@ -5,10 +5,10 @@ pub mod starting;
 use command::Buttons;
 use command::Wait;
 use drive::Drive;
-use drive::Latch;
-use drive::Way;
+use fault::Latch;
 use organ::Organ;
 use slots::SLOTS;
+use ways::Way;
 
 // `repeat` is the side of the last automatic command, while T2 goes by it; `last` is the last direction; `buttons` are those
 // that were pressed on the previous tick.

@@ -4,7 +4,7 @@ ghost use Rattle.record.specs.Limits.{ticksOf, delaysOf, motionWithin, c
 use crate::Regulator;
 use command::Wait;
 use drive::Drive;
-use drive::Latch;
+use fault::Latch;
 use organ::Organ;
 use slots::N_L;
 use slots::N_R;
@@ -49,8 +49,8 @@ fn motion_within(s: &[u32; SLOTS], d: Drive, w: Wait, l: Latch) -> bool
     let rests = drive::follow::rests(d);
     let moves = drive::follow::within(d, s[T4], s[T5]);
     let f = l.fault;
-    let fault = drive::latching::is_fault(f);
-    let latched = drive::latching::latch_within(l, s[T8]);
+    let fault = fault::is_fault(f);
+    let latched = fault::latch_within(l, s[T8]);
     (ticks <= 35999) & (rests | (ticks == 0)) & moves & (!fault | rests) & latched
 }
 

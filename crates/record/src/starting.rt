@@ -9,14 +9,14 @@ use crate::Regulator;
 use command::Buttons;
 use command::Wait;
 use drive::Drive;
-use drive::Fault;
-use drive::Latch;
-use drive::Way;
+use fault::Fault;
+use fault::Latch;
 use organ::Organ;
 use sheet::Answer;
 use slots::N_POS;
 use slots::N_START;
 use slots::SLOTS;
+use ways::Way;
 
 // The answer to a sheet, and the record that it gives.
 pub struct Started {

@@ -14,16 +14,16 @@ use Rattle.sheet.specs.Sheet.{passesOf}
 use Rattle.common.proofs.Joined.{and-five, or-true}
 use Rattle.sheet.proofs.Laws.{t1-range, t2-range, t3-range, t5-range}
 use Rattle.organ.specs.declared.OrganInput.{OrganInput}
-use Rattle.drive.specs.declared.Direction.{Direction}
+use Rattle.ways.specs.declared.Direction.{Direction}
 use Rattle.drive.specs.declared.Drive.{Drive}
-use Rattle.drive.specs.declared.Latch.{Latch}
-use Rattle.drive.specs.declared.Way.{Way}
-use Rattle.drive.specs.declared.Way.the-variants.{Neither, To}
+use Rattle.fault.specs.declared.Latch.{Latch}
+use Rattle.ways.specs.declared.Way.{Way}
+use Rattle.ways.specs.declared.Way.the-variants.{Neither, To}
 use Rattle.drive.specs.declared.follow.Contact.{Contact}
 use Rattle.drive.specs.declared.follow.Followed.{Followed}
 use Rattle.drive.specs.Follow as follow
 use Rattle.drive.specs.Follow.{followOf, restsOf}
-use Rattle.drive.specs.Latches.{isFault, laterOf, resetOf, latchWithin}
+use Rattle.fault.specs.Latches.{isFault, laterOf, resetOf, latchWithin}
 use Rattle.drive.proofs.Kept as kept
 use Rattle.command.specs.declared.Decided.{Decided}
 use Rattle.command.specs.declared.Situation.{Situation}

@@ -3,11 +3,11 @@
 use mathlib.Core.Path.{_≡_, refl, sym, ap, _∙_}
 use mathlib.Core.Bool.{Bool, true, false, _&&_}
 use Prim.Native.Nat.{ℕ}
-use Rattle.drive.specs.declared.Direction.{Direction}
+use Rattle.ways.specs.declared.Direction.{Direction}
 use Rattle.drive.specs.declared.Drive.{Drive}
 use Rattle.drive.specs.declared.Drive.the-variants.{Resting, Asked, Moving}
 use Rattle.drive.specs.Follow.{followOf, restsOf}
-use Rattle.drive.specs.Latches.{isFault}
+use Rattle.fault.specs.Latches.{isFault}
 use Rattle.drive.proofs.Serving as serving
 use Rattle.input.specs.declared.Input.{Input}
 use Rattle.command.specs.declared.Decided.{Decided}

@@ -13,11 +13,12 @@ use Rattle.common.proofs.Joined.{and-left, and-right, and-four}
 use Rattle.sheet.proofs.Laws.{t4-range}
 use Rattle.organ.specs.Limits.{organsWithin}
 use Rattle.organ.proofs.Within.{all-step-within}
-use Rattle.drive.specs.declared.Way.{Way}
-use Rattle.drive.specs.declared.Way.the-variants.{Neither, To}
+use Rattle.ways.specs.declared.Way.{Way}
+use Rattle.ways.specs.declared.Way.the-variants.{Neither, To}
 use Rattle.drive.specs.declared.follow.Contact.{Contact}
 use Rattle.drive.specs.Follow.{restsOf}
-use Rattle.drive.specs.Latches.{isFault, latchedOf}
+use Rattle.fault.specs.Latches.{isFault, latchedOf}
+use Rattle.fault.proofs.Kept.{latched-within}
 use Rattle.drive.proofs.Kept as kept
 use Rattle.tap.proofs.Steps.{counted-kept}
 use Rattle.input.specs.declared.Contacts.{Contacts}
@@ -96,7 +97,7 @@ module _ (r : Regulator) (h : withinOf r ≡ true) where
     unfolding supervisedIn supervisedOf followedOf contactOf
     next-motion =
         motion-kept (r .settings) pass situated decided sound (v .drive) (v .latch) rest (kept.follow-sound k four-or-more (r .drive) .within)
-        (λ e. (rests-in-fault e, no-command e (decided .command) refl)) (kept.latched-within _ _ _)
+        (λ e. (rests-in-fault e, no-command e (decided .command) refl)) (latched-within _ _ _)
 
     next-counts : countsWithin (r .settings) (protectedIn r (x .observed) .organs) (accountedIn r v .tap) (accountedIn r v .operations) ≡ true
     unfolding countsWithin protectedIn protectedOf accountedIn accountedOf

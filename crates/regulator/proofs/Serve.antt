@@ -11,8 +11,8 @@ use mathlib.Core.Logic.{_⊎_, inl, inr, ⊎-elim}
 use lib.ListN.{length, length-append}
 use Rattle.common.proofs.Joined.{split}
 use Rattle.slots.specs.Slots.{slot, t4, t5}
-use Rattle.drive.specs.declared.Direction.{Direction}
-use Rattle.drive.specs.declared.Direction.the-variants.{Raise, Lower}
+use Rattle.ways.specs.declared.Direction.{Direction}
+use Rattle.ways.specs.declared.Direction.the-variants.{Raise, Lower}
 use Rattle.drive.specs.declared.Drive.the-variants.{Asked, Moving}
 use Rattle.drive.specs.Follow.{restsOf}
 use Rattle.input.specs.declared.Input.{Input}

@@ -8,16 +8,17 @@ use lib.Dec.{eqb}
 use Rattle.slots.specs.Slots.{slot, t7}
 use Rattle.busbar.specs.declared.voltage.Level.{Level}
 use Rattle.busbar.specs.declared.voltage.Level.the-variants.{Missing, Low, InBand, High}
-use Rattle.drive.specs.declared.Direction.{Direction}
-use Rattle.drive.specs.declared.Direction.the-variants.{Raise, Lower}
+use Rattle.ways.specs.declared.Direction.{Direction}
+use Rattle.ways.specs.declared.Direction.the-variants.{Raise, Lower}
 use Rattle.drive.specs.declared.Drive.{Drive}
-use Rattle.drive.specs.declared.Fault.{Fault}
-use Rattle.drive.specs.declared.Fault.the-variants.{NoFault, RunAway, NotStarted, Long, Fast}
-use Rattle.drive.specs.declared.Way.the-variants.{To}
+use Rattle.fault.specs.declared.Fault.{Fault}
+use Rattle.fault.specs.declared.Fault.the-variants.{NoFault, RunAway, NotStarted, Long, Fast}
+use Rattle.ways.specs.declared.Way.the-variants.{To}
 use Rattle.drive.specs.Follow.{restsOf}
-use Rattle.drive.specs.Latches.{isFault}
-use Rattle.drive.specs.Shown.{onOf, fieldOf}
-use Rattle.drive.specs.Ways.{isTo}
+use Rattle.fault.specs.Latches.{isFault}
+use Rattle.drive.specs.Shown.{onOf}
+use Rattle.fault.specs.Latches.{fieldOf}
+use Rattle.ways.specs.Ways.{isTo}
 use Rattle.input.specs.declared.Contacts.{Contacts}
 use Rattle.input.specs.declared.Input.{Input}
 use Rattle.input.specs.Brought.{contactsOf}

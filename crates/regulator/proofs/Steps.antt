@@ -8,14 +8,15 @@ use lib.Dec.{eqb}
 use Rattle.common.specs.Choice.{choose}
 use Rattle.common.proofs.Cases.{yes, no, chosen}
 use Rattle.slots.specs.Slots.{slot, inService, t7}
-use Rattle.drive.specs.declared.Direction.{Direction}
-use Rattle.drive.specs.declared.Direction.the-variants.{Raise, Lower}
-use Rattle.drive.specs.declared.Way.the-variants.{To}
+use Rattle.ways.specs.declared.Direction.{Direction}
+use Rattle.ways.specs.declared.Direction.the-variants.{Raise, Lower}
+use Rattle.ways.specs.declared.Way.the-variants.{To}
 use Rattle.drive.specs.declared.follow.Contact.{Contact}
 use Rattle.drive.specs.Follow.{followOf, restsOf}
-use Rattle.drive.specs.Latches.{isFault, latchedOf}
+use Rattle.fault.specs.Latches.{isFault, latchedOf}
 use Rattle.drive.specs.Shown.{onOf}
-use Rattle.drive.proofs.Serving.{later-none, one-way}
+use Rattle.ways.proofs.Cases.{one-way}
+use Rattle.fault.proofs.Kept.{later-none}
 use Rattle.input.specs.declared.Input.{Input}
 use Rattle.blocks.proofs.Laws.{automatic-no-fault, automatic-not-local}
 use Rattle.command.specs.Automatic.{waitedOf, opposedOf}

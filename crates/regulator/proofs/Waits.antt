@@ -16,17 +16,18 @@ use Rattle.sheet.specs.Sheet.{passesOf}
 use Rattle.sheet.specs.Table.{rowOf, rowIn}
 use Rattle.common.proofs.Joined.{split, and-left, and-right, or-left, or-right}
 use Rattle.sheet.proofs.Laws.{in-run, t1-range, t2-range, t3-range}
-use Rattle.drive.specs.declared.Direction.{Direction}
-use Rattle.drive.specs.declared.Direction.the-variants.{Raise, Lower}
+use Rattle.ways.specs.declared.Direction.{Direction}
+use Rattle.ways.specs.declared.Direction.the-variants.{Raise, Lower}
 use Rattle.drive.specs.declared.Drive.{Drive}
 use Rattle.drive.specs.declared.Drive.the-variants.{Resting, Asked}
-use Rattle.drive.specs.declared.Way.{Way}
-use Rattle.drive.specs.declared.Way.the-variants.{Neither, To}
+use Rattle.ways.specs.declared.Way.{Way}
+use Rattle.ways.specs.declared.Way.the-variants.{Neither, To}
 use Rattle.drive.specs.declared.follow.Followed.{Followed}
 use Rattle.drive.specs.Follow.{followOf, restsOf}
 use Rattle.drive.specs.Shown.{onOf}
-use Rattle.drive.specs.Ways.{isTo}
-use Rattle.drive.proofs.Serving.{rest-silent, rest-open, rest-needs-open, is-to-self, is-to-is, is-to-neither}
+use Rattle.ways.specs.Ways.{isTo}
+use Rattle.ways.proofs.Cases.{is-to-self, is-to-is, is-to-neither}
+use Rattle.drive.proofs.Serving.{rest-silent, rest-open, rest-needs-open}
 use Rattle.input.specs.declared.Input.{Input}
 use Rattle.command.specs.declared.Decided.{Decided}
 use Rattle.command.specs.declared.Wait.{Wait}

@@ -10,8 +10,8 @@ use lib.Dec.{eqb}
 use lib.ListN.{length, getD}
 use Rattle.common.specs.Choice.{choose}
 use Rattle.slots.specs.Slots.{slot, inService, t1, t2, t3, t4, t5, t6}
-use Rattle.drive.specs.declared.Direction.{Direction}
-use Rattle.drive.specs.declared.Direction.the-variants.{Raise, Lower}
+use Rattle.ways.specs.declared.Direction.{Direction}
+use Rattle.ways.specs.declared.Direction.the-variants.{Raise, Lower}
 use Rattle.drive.specs.Follow.{restsOf}
 use Rattle.input.specs.declared.Input.{Input}
 use Rattle.input.specs.Brought.{bitOf, contactsOf}

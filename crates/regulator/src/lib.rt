@@ -4,22 +4,22 @@ ghost use mathlib.Core.List.{List};
 ghost use Rattle.record.specs.Limits.{withinOf};
 ghost use Rattle.regulator.specs.Lists.{listFrom, Kept};
 ghost use Rattle.regulator.specs.Ticks.{sensedOf, memoryOf, actedOf, shownOf, nextOf, ranOf, outOf, refusedOf, tickOf};
+use acting::accounting::Accounted;
+use acting::commanding::Memory;
+use acting::commanding::Regulated;
+use acting::supervising::Supervised;
 use blocks::Blocks;
 use command::Buttons;
 use input::Contacts;
 use input::Input;
 use organ::Organs;
 use record::Regulator;
-use slots::IN_SERVICE;
-use slots::SLOTS;
-use acting::accounting::Accounted;
 use sensing::assessing::Assessed;
-use acting::commanding::Memory;
-use acting::commanding::Regulated;
 use sensing::observing::Observed;
 use showing::FIELDS;
 use showing::Shown;
-use acting::supervising::Supervised;
+use slots::IN_SERVICE;
+use slots::SLOTS;
 
 // What a tick answers: 0, or the refusal 4 with outputs all 0.
 pub struct Reply {

@@ -6,11 +6,12 @@ use mathlib.Core.List.{List}
 use Prim.Native.Nat.{ℕ}
 use lib.Dec.{eqb}
 use Rattle.slots.specs.Slots.{slot, supplyTrip, t7, t8}
-use Rattle.drive.specs.declared.Way.{Way}
+use Rattle.ways.specs.declared.Way.{Way}
 use Rattle.drive.specs.Follow.{restsOf}
-use Rattle.drive.specs.Latches.{supplyOf}
-use Rattle.drive.specs.Shown.{onOf, fieldOf}
-use Rattle.drive.specs.Ways.{raises, lowers}
+use Rattle.fault.specs.Latches.{supplyOf}
+use Rattle.drive.specs.Shown.{onOf}
+use Rattle.fault.specs.Latches.{fieldOf}
+use Rattle.ways.specs.Ways.{raises, lowers}
 use Rattle.showing.specs.declared.Shown.{Shown}
 use Rattle.showing.specs.declared.Signals.{Signals}
 use Rattle.showing.specs.Showing.{isLow, isHigh, countedOf, countsOf, signalsOf}

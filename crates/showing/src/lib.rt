@@ -4,7 +4,7 @@ ghost use Rattle.showing.specs.Showing.{isLow, isHigh, countedOf, signal
 use blocks::Blocks;
 use busbar::voltage::Level;
 use drive::Drive;
-use drive::Latch;
+use fault::Latch;
 use slots::N_MAX;
 use slots::SLOTS;
 use slots::SUPPLY_TRIP;
@@ -80,12 +80,12 @@ fn signals_of(s: &[u32; SLOTS], x: Shown) -> Signals
     let fault = latch.fault;
     let level = x.level;
     let on = drive::shown::command_on(d, s[T7]);
-    let raise = drive::ways::to_raise(on);
-    let lower = drive::ways::to_lower(on);
+    let raise = ways::to_raise(on);
+    let lower = ways::to_lower(on);
     let low = is_low(level);
     let high = is_high(level);
-    let field = drive::shown::fault_field(fault);
-    let supply = drive::latching::supply_trip(fault, x.before, s[T8], s[SUPPLY_TRIP] == 1);
+    let field = fault::fault_field(fault);
+    let supply = fault::supply_trip(fault, x.before, s[T8], s[SUPPLY_TRIP] == 1);
     let rests = drive::follow::rests(d);
     let operations = shown_operations(s[WEAR_COUNT] == 1, x.operations);
     Signals {

@@ -8,9 +8,9 @@ use native.Mathlib.Omega.{arith}
 use borrow.Author.Tests.{ltb-true}
 use Rattle.common.proofs.Cases.{chosen, cases}
 use Rattle.slots.specs.Slots.{slot, nL, nR}
-use Rattle.drive.specs.declared.Direction.{Direction}
-use Rattle.drive.specs.declared.Way.{Way}
-use Rattle.drive.specs.declared.Way.the-variants.{Neither, To}
+use Rattle.ways.specs.declared.Direction.{Direction}
+use Rattle.ways.specs.declared.Way.{Way}
+use Rattle.ways.specs.declared.Way.the-variants.{Neither, To}
 use Rattle.tap.specs.Counted.{tapOf, upOf, downOf, stepOf, movedOf, countedOf}
 use Rattle.tap.specs.declared.counted.Counted.{Counted}
 

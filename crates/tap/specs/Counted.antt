@@ -5,10 +5,10 @@ use mathlib.Core.List.{List}
 use lib.Dec.{ltb, eqb}
 use Rattle.common.specs.Choice.{choose}
 use Rattle.slots.specs.Slots.{slot, tapSource, nL, nR}
-use Rattle.drive.specs.declared.Direction.{Direction}
-use Rattle.drive.specs.declared.Direction.the-variants.{Raise, Lower}
-use Rattle.drive.specs.declared.Way.{Way}
-use Rattle.drive.specs.declared.Way.the-variants.{Neither, To}
+use Rattle.ways.specs.declared.Direction.{Direction}
+use Rattle.ways.specs.declared.Direction.the-variants.{Raise, Lower}
+use Rattle.ways.specs.declared.Way.{Way}
+use Rattle.ways.specs.declared.Way.the-variants.{Neither, To}
 use Rattle.tap.specs.declared.counted.Counted.{Counted}
 
 -- a counted tap, with or without a range error

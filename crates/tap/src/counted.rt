@@ -1,12 +1,12 @@
 // Rule 7: the counted tap's step at the end of a tick on which a move ended.
 ghost use mathlib.Core.Path.{_≡_};
 ghost use Rattle.tap.specs.Counted.{upOf, downOf, isUp, stepOf, movedOf, countedOf};
-use drive::Direction;
-use drive::Way;
 use slots::N_L;
 use slots::N_R;
 use slots::SLOTS;
 use slots::TAP_SOURCE;
+use ways::Direction;
+use ways::Way;
 
 // The counted tap after the tick; range error where the step was past an end.
 pub struct Counted {

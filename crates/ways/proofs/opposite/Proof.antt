@@ -1,6 +1,6 @@
 use borrow.Author.Needs.{needs}
-use Rattle.drive.proofs.ways.opposite.Statement.{statement}
-use Rattle.drive.proofs.ways.opposite.Tie as tie
+use Rattle.ways.proofs.opposite.Statement.{statement}
+use Rattle.ways.proofs.opposite.Tie as tie
 
 to-raise-requires : tie.Need-to-raise-requires
 to-raise-requires c κs = search needs

@@ -1,8 +1,20 @@
-// The fault latch: reset, a new fault, its age, and the trip of the drive's supply.
+// The faults of a drive and their latch: reset, a new fault, its age, the trip of the drive's supply, and the output.
 ghost use mathlib.Core.Path.{_≡_};
-ghost use Rattle.drive.specs.Latches.{isFault, tripsSupply, resetOf, laterOf, ageOf, latchedOf, supplyOf, latchWithin};
-use crate::Fault;
-use crate::Latch;
+ghost use Rattle.fault.specs.Latches.{isFault, tripsSupply, resetOf, laterOf, ageOf, latchedOf, supplyOf, latchWithin, fieldOf};
+
+pub enum Fault {
+    NoFault,
+    RunAway,
+    NotStarted,
+    Long,
+    Fast,
+}
+
+// The fault that is latched, and the ticks that it has lasted, its first included, held at T8.
+pub struct Latch {
+    pub fault: Fault,
+    pub age: u32,
+}
 
 pub fn is_fault(f: Fault) -> bool
     ensures { λ r. ⌜ r ≡ isFault f ⌝ }
@@ -88,4 +100,17 @@ pub fn latch_within(l: Latch, t8: u32) -> bool
     let f = l.fault;
     let fault = is_fault(f);
     (l.age <= t8) & (fault | (l.age == 0))
+}
+
+// The output field of a fault, 0 for none.
+pub fn fault_field(f: Fault) -> u32
+    ensures { λ r. ⌜ r ≡ fieldOf f ⌝ }
+{
+    match f {
+        Fault::NoFault => 0,
+        Fault::RunAway => 19,
+        Fault::NotStarted => 20,
+        Fault::Long => 21,
+        Fault::Fast => 22,
+    }
 }

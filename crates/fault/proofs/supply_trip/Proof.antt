@@ -1,6 +1,6 @@
 use borrow.Author.Needs.{needs}
-use Rattle.drive.proofs.latching.supply_trip.Statement.{statement}
-use Rattle.drive.proofs.latching.supply_trip.Tie as tie
+use Rattle.fault.proofs.supply_trip.Statement.{statement}
+use Rattle.fault.proofs.supply_trip.Tie as tie
 
 trips-supply-requires : tie.Need-trips-supply-requires
 trips-supply-requires c κs = search needs

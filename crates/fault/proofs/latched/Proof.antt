@@ -1,7 +1,7 @@
-use Rattle.drive.specs.Latches.{latchedOf}
+use Rattle.fault.specs.Latches.{latchedOf}
 use borrow.Author.Needs.{needs}
-use Rattle.drive.proofs.latching.latched.Statement.{statement}
-use Rattle.drive.proofs.latching.latched.Tie as tie
+use Rattle.fault.proofs.latched.Statement.{statement}
+use Rattle.fault.proofs.latched.Tie as tie
 
 later-requires : tie.Need-later-requires
 later-requires c κs = search needs

@@ -1,8 +1,8 @@
 use Rattle.common.proofs.Cases.{cases}
-use Rattle.drive.specs.Latches.{ageOf}
+use Rattle.fault.specs.Latches.{ageOf}
 use borrow.Author.Needs.{needs}
-use Rattle.drive.proofs.latching.aged.Statement.{statement}
-use Rattle.drive.proofs.latching.aged.Tie as tie
+use Rattle.fault.proofs.aged.Statement.{statement}
+use Rattle.fault.proofs.aged.Tie as tie
 
 is-fault-requires : tie.Need-is-fault-requires
 is-fault-requires c κs = search needs

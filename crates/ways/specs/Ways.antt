@@ -1,9 +1,9 @@
 -- A direction, or none. Definitions only.
 use mathlib.Core.Bool.{Bool, true, false, _&&_, _||_}
-use Rattle.drive.specs.declared.Direction.{Direction}
-use Rattle.drive.specs.declared.Direction.the-variants.{Raise, Lower}
-use Rattle.drive.specs.declared.Way.{Way}
-use Rattle.drive.specs.declared.Way.the-variants.{Neither, To}
+use Rattle.ways.specs.declared.Direction.{Direction}
+use Rattle.ways.specs.declared.Direction.the-variants.{Raise, Lower}
+use Rattle.ways.specs.declared.Way.{Way}
+use Rattle.ways.specs.declared.Way.the-variants.{Neither, To}
 
 abbrev pub raises : Way → Bool
 raises Neither = false

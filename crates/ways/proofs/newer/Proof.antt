@@ -1,7 +1,7 @@
-use Rattle.drive.proofs.States.{states}
+use Rattle.ways.proofs.Cases.{ways}
 use borrow.Author.Needs.{needs}
-use Rattle.drive.proofs.ways.newer.Statement.{statement}
-use Rattle.drive.proofs.ways.newer.Tie as tie
+use Rattle.ways.proofs.newer.Statement.{statement}
+use Rattle.ways.proofs.newer.Tie as tie
 
 enum-told : tie.Need-enum-told
 enum-told c = search needs
@@ -10,10 +10,10 @@ enum-known-new : tie.Need-enum-known-new
 enum-known-new c = search needs
 
 returns : tie.Need-returns
-returns c = search states
+returns c = search ways
 
 returns-2 : tie.Need-returns-2
-returns-2 c = search states
+returns-2 c = search ways
 
 pub newer-spec : {M : Type 1} → statement M
 newer-spec = tie.close (tie.spec enum-told enum-known-new returns returns-2)

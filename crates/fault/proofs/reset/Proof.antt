@@ -1,7 +1,7 @@
 use Rattle.common.proofs.Cases.{cases}
-use Rattle.drive.specs.Latches.{resetOf}
-use Rattle.drive.proofs.latching.reset.Statement.{statement}
-use Rattle.drive.proofs.latching.reset.Tie as tie
+use Rattle.fault.specs.Latches.{resetOf}
+use Rattle.fault.proofs.reset.Statement.{statement}
+use Rattle.fault.proofs.reset.Tie as tie
 
 returns : tie.Need-returns
 unfolding resetOf

@@ -1,8 +1,17 @@
-// A direction, or none: which it is, and the newer of two.
+// Directions: which a way is, and the newer of two. The low side is the one that a raise answers, so they are sides too.
 ghost use mathlib.Core.Path.{_≡_};
-ghost use Rattle.drive.specs.Ways.{raises, lowers, isTo, newerOf, otherOf};
-use crate::Direction;
-use crate::Way;
+ghost use Rattle.ways.specs.Ways.{raises, lowers, isTo, newerOf, otherOf};
+
+pub enum Direction {
+    Raise,
+    Lower,
+}
+
+// A direction, or none.
+pub enum Way {
+    Neither,
+    To(Direction),
+}
 
 pub fn to_raise(w: Way) -> bool
     ensures { λ r. ⌜ r ≡ raises w ⌝ }

@@ -1,8 +1,8 @@
 use Rattle.common.proofs.Cases.{cases}
-use Rattle.drive.specs.Latches.{laterOf}
+use Rattle.fault.specs.Latches.{laterOf}
 use borrow.Author.Needs.{needs}
-use Rattle.drive.proofs.latching.later.Statement.{statement}
-use Rattle.drive.proofs.latching.later.Tie as tie
+use Rattle.fault.proofs.later.Statement.{statement}
+use Rattle.fault.proofs.later.Tie as tie
 
 is-fault-requires : tie.Need-is-fault-requires
 is-fault-requires c κs = search needs

@@ -1,6 +1,6 @@
 use borrow.Author.Needs.{needs}
-use Rattle.drive.proofs.latching.latch_within.Statement.{statement}
-use Rattle.drive.proofs.latching.latch_within.Tie as tie
+use Rattle.fault.proofs.latch_within.Statement.{statement}
+use Rattle.fault.proofs.latch_within.Tie as tie
 
 is-fault-requires : tie.Need-is-fault-requires
 is-fault-requires c κs = search needs

@@ -1,11 +1,11 @@
--- Rule 2 of 01, the fault's latch and age, and output 23. Definitions only.
+-- Rule 2 of 01, the fault's latch and age, and outputs 19 to 23. Definitions only.
 use Prim.Native.Nat.{ℕ, _+_}
 use mathlib.Core.Bool.{Bool, true, false, _&&_, _||_}
 use lib.Dec.{ltb, leb, eqb}
 use Rattle.common.specs.Choice.{choose}
-use Rattle.drive.specs.declared.Fault.{Fault}
-use Rattle.drive.specs.declared.Fault.the-variants.{NoFault, RunAway, NotStarted, Long, Fast}
-use Rattle.drive.specs.declared.Latch.{Latch}
+use Rattle.fault.specs.declared.Fault.{Fault}
+use Rattle.fault.specs.declared.Fault.the-variants.{NoFault, RunAway, NotStarted, Long, Fast}
+use Rattle.fault.specs.declared.Latch.{Latch}
 
 abbrev pub isFault : Fault → Bool
 isFault NoFault = false
@@ -44,3 +44,11 @@ supplyOf f before t8 lasting = tripsSupply f && (lasting || ltb before t8)
 -- limits of a record: fault age "at most T8, 0 without fault"
 abbrev pub latchWithin : Latch → ℕ → Bool
 latchWithin l t8 = leb (l .age) t8 && (isFault (l .fault) || eqb (l .age) 0)
+
+-- outputs "19–22 run-away, not started, long, fast"
+abbrev pub fieldOf : Fault → ℕ
+fieldOf NoFault = 0
+fieldOf RunAway = 19
+fieldOf NotStarted = 20
+fieldOf Long = 21
+fieldOf Fast = 22
