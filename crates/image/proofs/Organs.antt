@@ -13,9 +13,9 @@ use Rattle.common.specs.Places.{every}
 use Rattle.common.proofs.Places.{rest, rest-on, rest-no, rest-none}
 use Rattle.common.proofs.Joined.{and-left, and-right}
 use Rattle.image.specs.declared.places.OrganNumbers.{OrganNumbers}
-use Rattle.image.specs.Numbers.{isBit}
+use Rattle.coding.specs.Numbers.{isBit}
 use Rattle.image.specs.Places.{markOf, countOf, organNumbers, organOf, organsOf, areMarks}
-use Rattle.image.proofs.Cases.{bit-back, bit-is, bit-same}
+use Rattle.coding.proofs.Cases.{bit-back, bit-is, bit-same}
 
 -- ---- there and back
 

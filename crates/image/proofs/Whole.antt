@@ -11,13 +11,13 @@ use Rattle.record.specs.declared.Regulator.{Regulator}
 use Rattle.record.specs.Starting.{zerosOf}
 use Rattle.image.specs.declared.Image.{Image}
 use Rattle.image.specs.declared.FromImage.{FromImage}
-use Rattle.image.specs.declared.DriveImage.{DriveImage}
-use Rattle.image.specs.declared.WaitImage.{WaitImage}
+use Rattle.coding.specs.declared.DriveImage.{DriveImage}
+use Rattle.coding.specs.declared.WaitImage.{WaitImage}
 use Rattle.image.specs.declared.places.OrganNumbers.{OrganNumbers}
-use Rattle.image.specs.Numbers.{bitOf, isBit, wayNumber, isWay, faultNumber, isFault, driveImage, isDrive, waitImage, isWait}
+use Rattle.coding.specs.Numbers.{bitOf, isBit, wayNumber, isWay, faultNumber, isFault, driveImage, isDrive, waitImage, isWait}
 use Rattle.image.specs.Places.{organNumbers, areMarks}
 use Rattle.image.specs.Images.{imageOf, isRecord, stateOf, takenOf, recordOf}
-use Rattle.image.proofs.Cases.{bit-back, bit-is, bit-same, way-back, way-is, way-same, fault-back, fault-is, fault-same, drive-back, drive-is, drive-same, wait-back, wait-is, wait-same}
+use Rattle.coding.proofs.Cases.{bit-back, bit-is, bit-same, way-back, way-is, way-same, fault-back, fault-is, fault-same, drive-back, drive-is, drive-same, wait-back, wait-is, wait-same}
 use Rattle.image.proofs.Organs.{organs-back, organs-are, marks-same, counts-same}
 
 -- ---- from the record

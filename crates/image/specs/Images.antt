@@ -6,7 +6,7 @@ use Rattle.record.specs.declared.Regulator.{Regulator}
 use Rattle.record.specs.Starting.{zerosOf}
 use Rattle.image.specs.declared.Image.{Image}
 use Rattle.image.specs.declared.FromImage.{FromImage}
-use Rattle.image.specs.Numbers.{bitOf, isBit, wayNumber, isWay, wayOf, faultNumber, isFault, faultOf, driveImage, driveOf, isDrive, waitImage, waitOf, isWait}
+use Rattle.coding.specs.Numbers.{bitOf, isBit, wayNumber, isWay, wayOf, faultNumber, isFault, faultOf, driveImage, driveOf, isDrive, waitImage, waitOf, isWait}
 use Rattle.image.specs.Places.{organNumbers, organsOf, areMarks}
 
 unfoldable pub imageOf : Regulator → Image

@@ -7,7 +7,7 @@ use Rattle.common.specs.Places.{zip}
 use Rattle.organ.specs.declared.Organ.{Organ}
 use Rattle.common.specs.Places.{every}
 use Rattle.image.specs.declared.places.OrganNumbers.{OrganNumbers}
-use Rattle.image.specs.Numbers.{bitOf, isBit}
+use Rattle.coding.specs.Numbers.{bitOf, isBit}
 
 unfoldable pub markOf : Organ → ℕ
 markOf o = bitOf (o .marked)

@@ -25,11 +25,11 @@ pub fn image_of(r: Regulator) -> Image
     let numbers = crate::places::organ_numbers(organs);
     let marks = numbers.marks;
     let counts = numbers.counts;
-    let drive = crate::numbers::drive_image(d);
-    let fault = crate::numbers::fault_number(f);
-    let wait = crate::numbers::wait_image(w);
-    let repeat = crate::numbers::way_number(again);
-    let last = crate::numbers::way_number(before);
+    let drive = coding::drive_image(d);
+    let fault = coding::fault_number(f);
+    let wait = coding::wait_image(w);
+    let repeat = coding::way_number(again);
+    let last = coding::way_number(before);
     Image {
         settings: settings,
         organ_marks: marks,
@@ -55,8 +55,8 @@ fn is_record(m: Image) -> bool
     let d = m.drive;
     let w = m.wait;
     let marks = crate::places::are_marks(numbers);
-    let drive = crate::numbers::is_drive(d);
-    let wait = crate::numbers::is_wait(w);
+    let drive = coding::is_drive(d);
+    let wait = coding::is_wait(w);
     let ways = (m.repeat <= 2) & (m.last <= 2);
     let buttons = (m.raise_button <= 1) & (m.lower_button <= 1);
     marks & drive & (m.fault <= 4) & wait & ways & buttons
@@ -72,11 +72,11 @@ fn state_of(m: Image) -> Regulator
     let d = m.drive;
     let w = m.wait;
     let organs = crate::places::organs_of(marks, counts);
-    let drive = crate::numbers::drive_of(d);
-    let fault = crate::numbers::fault_of(m.fault);
-    let wait = crate::numbers::wait_of(w);
-    let repeat = crate::numbers::way_of(m.repeat);
-    let last = crate::numbers::way_of(m.last);
+    let drive = coding::drive_of(d);
+    let fault = coding::fault_of(m.fault);
+    let wait = coding::wait_of(w);
+    let repeat = coding::way_of(m.repeat);
+    let last = coding::way_of(m.last);
     Regulator {
         settings: settings,
         organs: organs,

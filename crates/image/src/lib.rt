@@ -2,27 +2,12 @@
 // to hand over a bool. One image for each record, and functions there and back.
 pub mod bringing;
 pub mod images;
-pub mod numbers;
 pub mod places;
 
+use coding::DriveImage;
+use coding::WaitImage;
 use record::Regulator;
 use slots::SLOTS;
-
-// `kind`: 0 at rest, 1 asked, 2 a commanded move, 3 an own move. `direction`: 0 raise, 1 lower. `ticks`: the asked command's
-// age or the move's length. At rest all three are 0.
-#[repr(C)]
-pub struct DriveImage {
-    pub kind: u32,
-    pub direction: u32,
-    pub ticks: u32,
-}
-
-// `side`: 0 no wait, 1 the low side, which a raise answers, 2 the high side, which a lower answers. Without a wait both are 0.
-#[repr(C)]
-pub struct WaitImage {
-    pub side: u32,
-    pub ticks: u32,
-}
 
 // `fault`: 0 none, 1 run-away, 2 not started, 3 long, 4 fast. `repeat`, `last`: 0 none, 1 raise, 2 lower. A mark and a button
 // are 0 or 1.

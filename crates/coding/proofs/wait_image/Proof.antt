@@ -1,8 +1,8 @@
 -- `image::numbers::wait_image` meets its contract, case by case. Assumes nothing.
-use Rattle.image.proofs.Cases.{idle-made, waits-made}
+use Rattle.coding.proofs.Cases.{idle-made, waits-made}
 use borrow.Author.Needs.{needs}
-use Rattle.image.proofs.numbers.wait_image.Statement.{statement}
-use Rattle.image.proofs.numbers.wait_image.Tie as tie
+use Rattle.coding.proofs.wait_image.Statement.{statement}
+use Rattle.coding.proofs.wait_image.Tie as tie
 
 enum-told : tie.Need-enum-told
 enum-told c = search needs

@@ -18,9 +18,9 @@ use Rattle.fault.specs.declared.Fault.{Fault}
 use Rattle.fault.specs.declared.Fault.the-variants.{NoFault, RunAway, NotStarted, Long, Fast}
 use Rattle.command.specs.declared.Wait.{Wait}
 use Rattle.command.specs.declared.Wait.the-variants.{Idle, For}
-use Rattle.image.specs.declared.DriveImage.{DriveImage}
-use Rattle.image.specs.declared.WaitImage.{WaitImage}
-use Rattle.image.specs.Numbers.{bitOf, isBit, directionNumber, directionOf, wayNumber, isWay, wayOf, faultNumber, isFault, faultOf, moveNumber, driveImage, driveOf, isDrive, waitImage, waitOf, isWait}
+use Rattle.coding.specs.declared.DriveImage.{DriveImage}
+use Rattle.coding.specs.declared.WaitImage.{WaitImage}
+use Rattle.coding.specs.Numbers.{bitOf, isBit, directionNumber, directionOf, wayNumber, isWay, wayOf, faultNumber, isFault, faultOf, moveNumber, driveImage, driveOf, isDrive, waitImage, waitOf, isWait}
 
 -- a flag
 pub bit-back : (b : Bool) → eqb (bitOf b) 1 ≡ b

@@ -1,8 +1,8 @@
 -- `image::numbers::wait_of` meets its contract: each branch is a choice of the definition. Assumes nothing.
 use Rattle.common.proofs.Cases.{cases}
-use Rattle.image.specs.Numbers.{waitOf}
-use Rattle.image.proofs.numbers.wait_of.Statement.{statement}
-use Rattle.image.proofs.numbers.wait_of.Tie as tie
+use Rattle.coding.specs.Numbers.{waitOf}
+use Rattle.coding.proofs.wait_of.Statement.{statement}
+use Rattle.coding.proofs.wait_of.Tie as tie
 
 returns : tie.Need-returns
 unfolding waitOf

@@ -1,8 +1,8 @@
 -- `image::numbers::way_of` meets its contract: each branch is a choice of the definition. Assumes nothing.
 use Rattle.common.proofs.Cases.{cases}
-use Rattle.image.specs.Numbers.{wayOf}
-use Rattle.image.proofs.numbers.way_of.Statement.{statement}
-use Rattle.image.proofs.numbers.way_of.Tie as tie
+use Rattle.coding.specs.Numbers.{wayOf}
+use Rattle.coding.proofs.way_of.Statement.{statement}
+use Rattle.coding.proofs.way_of.Tie as tie
 
 returns : tie.Need-returns
 unfolding wayOf

@@ -1,6 +1,6 @@
 // The record's enums in numbers, and back; which numbers stand for a case.
 ghost use mathlib.Core.Path.{_≡_};
-ghost use Rattle.image.specs.Numbers.{
+ghost use Rattle.coding.specs.Numbers.{
   directionNumber,
   directionOf,
   wayNumber,
@@ -15,13 +15,27 @@ ghost use Rattle.image.specs.Numbers.{
   waitOf,
   isWait,
 };
-use crate::DriveImage;
-use crate::WaitImage;
 use command::Wait;
 use drive::Drive;
 use fault::Fault;
 use ways::Direction;
 use ways::Way;
+
+// `kind`: 0 at rest, 1 asked, 2 a commanded move, 3 an own move. `direction`: 0 raise, 1 lower. `ticks`: the asked command's
+// age or the move's length. At rest all three are 0.
+#[repr(C)]
+pub struct DriveImage {
+    pub kind: u32,
+    pub direction: u32,
+    pub ticks: u32,
+}
+
+// `side`: 0 no wait, 1 the low side, which a raise answers, 2 the high side, which a lower answers. Without a wait both are 0.
+#[repr(C)]
+pub struct WaitImage {
+    pub side: u32,
+    pub ticks: u32,
+}
 
 fn direction_number(d: Direction) -> u32
     ensures { λ n. ⌜ n ≡ directionNumber d ⌝ }

@@ -1,8 +1,8 @@
 -- `image::numbers::fault_of` meets its contract: each branch is a choice of the definition. Assumes nothing.
 use Rattle.common.proofs.Cases.{cases}
-use Rattle.image.specs.Numbers.{faultOf}
-use Rattle.image.proofs.numbers.fault_of.Statement.{statement}
-use Rattle.image.proofs.numbers.fault_of.Tie as tie
+use Rattle.coding.specs.Numbers.{faultOf}
+use Rattle.coding.proofs.fault_of.Statement.{statement}
+use Rattle.coding.proofs.fault_of.Tie as tie
 
 returns : tie.Need-returns
 unfolding faultOf

@@ -1,10 +1,10 @@
 -- `image::numbers::drive_of` meets its contract: each branch is a choice of the definition. Assumes nothing.
 use Rattle.common.proofs.Cases.{cases}
-use Rattle.image.specs.Numbers.{driveOf}
-use Rattle.image.proofs.Cases.{asked-made, moving-made}
+use Rattle.coding.specs.Numbers.{driveOf}
+use Rattle.coding.proofs.Cases.{asked-made, moving-made}
 use borrow.Author.Needs.{needs}
-use Rattle.image.proofs.numbers.drive_of.Statement.{statement}
-use Rattle.image.proofs.numbers.drive_of.Tie as tie
+use Rattle.coding.proofs.drive_of.Statement.{statement}
+use Rattle.coding.proofs.drive_of.Tie as tie
 
 direction-of-requires : tie.Need-direction-of-requires
 direction-of-requires c κs = search needs

@@ -1,8 +1,8 @@
 -- `image::numbers::drive_image` meets its contract, case by case. Assumes nothing.
-use Rattle.image.proofs.Cases.{rests-made, asks-made, moves-made}
+use Rattle.coding.proofs.Cases.{rests-made, asks-made, moves-made}
 use borrow.Author.Needs.{needs}
-use Rattle.image.proofs.numbers.drive_image.Statement.{statement}
-use Rattle.image.proofs.numbers.drive_image.Tie as tie
+use Rattle.coding.proofs.drive_image.Statement.{statement}
+use Rattle.coding.proofs.drive_image.Tie as tie
 
 enum-told : tie.Need-enum-told
 enum-told c = search needs

@@ -1,8 +1,8 @@
 -- `image::numbers::direction_of` meets its contract: each branch is a choice of the definition. Assumes nothing.
 use Rattle.common.proofs.Cases.{cases}
-use Rattle.image.specs.Numbers.{directionOf}
-use Rattle.image.proofs.numbers.direction_of.Statement.{statement}
-use Rattle.image.proofs.numbers.direction_of.Tie as tie
+use Rattle.coding.specs.Numbers.{directionOf}
+use Rattle.coding.proofs.direction_of.Statement.{statement}
+use Rattle.coding.proofs.direction_of.Tie as tie
 
 returns : tie.Need-returns
 unfolding directionOf
