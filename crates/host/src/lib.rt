@@ -1,7 +1,6 @@
 // The library for a host in C or Rust. `include/avr.h` has the same declarations for C. The host holds the image of a record,
 // lends it for a tick and finds it advanced.
 ghost use mathlib.Core.Path.{_≡_};
-ghost use Rattle.sheet.specs.Sheet.{numberOf, slotOf};
 ghost use Rattle.record.specs.Starting.{startOf};
 ghost use Rattle.host.specs.Hosting.{startedImage, imageTickOf};
 
@@ -11,7 +10,6 @@ use crate::ticking::ImageTicked;
 use crate::ticking::Outputs;
 use image::Image;
 use image::bringing::Brought;
-use sheet::Answer;
 
 // The answer to a list: 0, or the number of the refusal and its slot, with the image of the record that the list gives; of the
 // record of zeros where it is refused.
@@ -22,28 +20,6 @@ pub struct Started {
     pub image: Image,
 }
 
-fn number_of(a: Answer) -> u32
-    ensures { λ n. ⌜ n ≡ numberOf a ⌝ }
-{
-    match a {
-        Answer::Taken => 0,
-        Answer::WrongLength => 1,
-        Answer::OutOfRange { slot: _ } => 2,
-        Answer::TapOrder { slot: _ } => 3,
-    }
-}
-
-fn slot_of(a: Answer) -> u32
-    ensures { λ n. ⌜ n ≡ slotOf a ⌝ }
-{
-    match a {
-        Answer::Taken => 0,
-        Answer::WrongLength => 0,
-        Answer::OutOfRange { slot } => slot,
-        Answer::TapOrder { slot } => slot,
-    }
-}
-
 // Starts a regulator from a setting sheet of any length; the list is left as it was.
 #[no_mangle]
 pub extern "C" fn avr_start(list: &[u32]) -> Started
@@ -52,8 +28,8 @@ pub extern "C" fn avr_start(list: &[u32]) -> Started
     let s = record::starting::start(list);
     let a = s.answer;
     let state = s.state;
-    let number = number_of(a);
-    let slot = slot_of(a);
+    let number = sheet::number(a);
+    let slot = sheet::slot(a);
     let image = image::images::image_of(state);
     Started {
         number: number,

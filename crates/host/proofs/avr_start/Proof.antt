@@ -7,11 +7,11 @@ use Rattle.host.proofs.avr_start.Tie as tie
 start-requires : tie.Need-start-requires
 start-requires c κs = search needs
 
-number-of-requires : tie.Need-number-of-requires
-number-of-requires c κs = search needs
+number-requires : tie.Need-number-requires
+number-requires c κs = search needs
 
-slot-of-requires : tie.Need-slot-of-requires
-slot-of-requires c κs = search needs
+slot-requires : tie.Need-slot-requires
+slot-requires c κs = search needs
 
 image-of-requires : tie.Need-image-of-requires
 image-of-requires c κs = search needs
@@ -22,4 +22,4 @@ returns c = search (needs, started-made)
 pub avr-start-spec : {M : Type 1} → statement M
 avr-start-spec =
     tie.close
-    (tie.spec start-requires number-of-requires slot-of-requires image-of-requires returns)
+    (tie.spec start-requires number-requires slot-requires image-of-requires returns)
