@@ -19,8 +19,9 @@ use Rattle.slots.specs.Slots.{slot, dU, uComp, uSet5, moduleKind, compensationC
 use Rattle.measure.specs.declared.Measured.{Measured}
 use Rattle.measure.specs.declared.Measured.the-variants as measured
 use Rattle.measure.specs.Readings.{AtMost}
+use Rattle.sheet.specs.Table.{moduleFactor}
 use Rattle.busbar.specs.Section.{goodAbove}
-use Rattle.busbar.specs.Voltage.{goodOf, both, sumOf, differenceOf, currentOf, moduleOf, dropOf, voltageDrop, Within}
+use Rattle.busbar.specs.Voltage.{goodOf, both, sumOf, differenceOf, currentOf, dropOf, voltageDrop, Within}
 use Rattle.busbar.specs.Deviation.{bandOf, levelOf, farAbove}
 use Rattle.busbar.specs.declared.voltage.Level.{Level}
 use Rattle.busbar.specs.declared.voltage.Level.the-variants as level
@@ -145,12 +146,12 @@ module _ (comp : ℕ) (i : ℤ) (k : ℕ) (small-comp : comp < 2 ^ 32) (small-i 
   pub drop-small : natAbs (read (quotZ (read (toZ w64 comp *ℤ read i)) (toZ w64 (1000 * k)))) ≤ 2 ^ 60
   drop-small = le-trans (small (back quotient tt)) (lit≤ tt)
 
-pub rating-positive : (r : ℕ) (s : List ℕ) → r ≡ moduleOf s → 0 < r
-unfolding moduleOf
+pub rating-positive : (r : ℕ) (s : List ℕ) → r ≡ moduleFactor s → 0 < r
+unfolding moduleFactor
 rating-positive r s e = rw e (chosen (λ (n : ℕ). 0 < n) (eqb (slot s moduleKind) 1) 5 1 (λ p. lit< tt) (λ p. lit< tt))
 
-pub rating-le : (r : ℕ) (s : List ℕ) → r ≡ moduleOf s → r ≤ 5
-unfolding moduleOf
+pub rating-le : (r : ℕ) (s : List ℕ) → r ≡ moduleFactor s → r ≤ 5
+unfolding moduleFactor
 rating-le r s e = rw e (chosen (λ (n : ℕ). n ≤ 5) (eqb (slot s moduleKind) 1) 5 1 (λ p. lit≤ tt) (λ p. lit≤ tt))
 
 pub current-read : (v : Value) (z : ℤ) → v ≡ Is z → Within 400000 v → natAbs (read z) ≤ 400000
@@ -161,7 +162,7 @@ module _ (s : List ℕ) (v : Value) where
   unfolding voltageDrop
   drop-missing p = rw p
 
-  pub drop-made : (z r : ℤ) (k : ℕ) → v ≡ Is z → Within 400000 v → k ≡ moduleOf s → r ≡ dropOf (slot s uComp) (read z) k → natAbs r ≤ 2 ^ 60
+  pub drop-made : (z r : ℤ) (k : ℕ) → v ≡ Is z → Within 400000 v → k ≡ moduleFactor s → r ≡ dropOf (slot s uComp) (read z) k → natAbs r ≤ 2 ^ 60
       → Is (read r) ≡ voltageDrop s v
   unfolding voltageDrop
   drop-made z r k p h e q l =

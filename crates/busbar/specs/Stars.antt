@@ -9,7 +9,8 @@ use Rattle.common.specs.Choice.{choose}
 use Rattle.slots.specs.Slots.{slots, moduleKind, compensation, compensationCurrent, uSupp, dU, uComp}
 use Rattle.measure.specs.declared.Measured.{Measured}
 use Rattle.measure.specs.declared.Measured.the-variants.{Good, Held}
-use Rattle.busbar.specs.Voltage.{goodOf, both, currentOf, moduleOf, dropOf, voltageDrop, voltageOf}
+use Rattle.sheet.specs.Table.{moduleFactor}
+use Rattle.busbar.specs.Voltage.{goodOf, both, currentOf, dropOf, voltageDrop, voltageOf}
 use Rattle.busbar.specs.Deviation.{supplyOf, lowOf, highOf, bandOf, levelOf}
 use Rattle.busbar.specs.declared.voltage.Level.{Level}
 use Rattle.busbar.specs.declared.voltage.Level.the-variants.{Low, InBand, High}
@@ -69,5 +70,5 @@ found (dropStar comp kind i z) = isValue (voltageDrop (dropSheet comp kind) (Is 
 found (voltageStar comp kind ab bus coupler u) = isValue (voltageOf (dropSheet comp kind) ab bus coupler)
 
 pub stars-are : map found stars ≡ map expected stars
-unfolding choose goodOf both currentOf moduleOf dropOf voltageDrop voltageOf supplyOf lowOf highOf bandOf levelOf
+unfolding choose goodOf both currentOf moduleFactor dropOf voltageDrop voltageOf supplyOf lowOf highOf bandOf levelOf
 stars-are = refl

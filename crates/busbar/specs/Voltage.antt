@@ -5,9 +5,10 @@ use lib.Dec.{eqb}
 use lib.IntN.{ℤ, pos, natAbs, _+ℤ_, _-ℤ_, _*ℤ_}
 use lib.Signed.{quotZ}
 use Rattle.common.specs.Choice.{choose}
-use Rattle.slots.specs.Slots.{slot, moduleKind, compensation, compensationCurrent, uComp}
+use Rattle.slots.specs.Slots.{slot, compensation, compensationCurrent, uComp}
 use Rattle.measure.specs.declared.Measured.{Measured}
 use Rattle.measure.specs.declared.Measured.the-variants as measured
+use Rattle.sheet.specs.Table.{moduleFactor}
 use Rattle.busbar.specs.declared.voltage.Value.{Value}
 use Rattle.busbar.specs.declared.voltage.Value.the-variants.{Missing, Is}
 
@@ -37,17 +38,13 @@ currentOf s bus coupler =
     (choose (eqb (slot s compensationCurrent) 2) (differenceOf (goodOf bus) (goodOf coupler))
     (sumOf (goodOf bus) (goodOf coupler))))
 
--- "k is 1 if slot 1 is 0 (1 A module), 5 if it is 1 (5 A)"
-unfoldable pub moduleOf : List ℕ → ℕ
-moduleOf s = choose (eqb (slot s moduleKind) 1) 5 1
-
 -- "U_comp × I ÷ (1,000k), rounded toward zero"
 unfoldable pub dropOf : ℕ → ℤ → ℕ → ℤ
 dropOf comp i k = quotZ (pos comp *ℤ i) (pos (1000 * k))
 
 unfoldable pub voltageDrop : List ℕ → Value → Value
 voltageDrop s Missing = Missing
-voltageDrop s (Is i) = Is (dropOf (slot s uComp) i (moduleOf s))
+voltageDrop s (Is i) = Is (dropOf (slot s uComp) i (moduleFactor s))
 
 -- "Good U_AB, less U_comp × I ÷ (1,000k), rounded toward zero, if slot 3 is 1"
 unfoldable pub voltageOf : List ℕ → Measured → Measured → Measured → Value

@@ -4,13 +4,12 @@ ghost use Prim.Native.Nat.{_≤_, _<_, _^_};
 ghost use lib.IntN.{pos, natAbs, _*ℤ_};
 ghost use lib.Signed.{leZ, ltZ};
 ghost use Rattle.measure.specs.Readings.{AtMost};
-ghost use Rattle.busbar.specs.Voltage.{goodOf, sumOf, differenceOf, currentOf, moduleOf, dropOf, voltageDrop, voltageOf, Within};
+ghost use Rattle.busbar.specs.Voltage.{goodOf, sumOf, differenceOf, currentOf, dropOf, voltageDrop, voltageOf, Within};
 ghost use Rattle.busbar.specs.Deviation.{supplyOf, lowOf, highOf, bandOf, levelOf, farAbove};
 use measure::Measured;
 use slots::COMPENSATION;
 use slots::COMPENSATION_CURRENT;
 use slots::D_U;
-use slots::MODULE;
 use slots::SLOTS;
 use slots::U_COMP;
 use slots::U_SET5;
@@ -89,13 +88,6 @@ fn current(s: &[u32; SLOTS], i_bus: Measured, i_coupler: Measured) -> Value
     }
 }
 
-// k, the rated current of the module in A.
-fn module_rating(s: &[u32; SLOTS]) -> u32
-    ensures { λ r. ⌜ r ≡ moduleOf (now (s .entry)) ⌝ }
-{
-    if s[MODULE] == 1 { 5 } else { 1 }
-}
-
 // U_comp × I ÷ (1,000k), rounded toward zero.
 fn drop_at(u_comp: u32, i: i64, k: u32) -> i64
     requires { ⌜ (natAbs i ≤ 400000) × ((0 < k) × (k ≤ 5)) ⌝ }
@@ -111,7 +103,7 @@ fn voltage_drop(s: &[u32; SLOTS], i: Value) -> Value
 {
     match i {
         Value::Missing => Value::Missing,
-        Value::Is(x) => Value::Is(drop_at(s[U_COMP], x, module_rating(s))),
+        Value::Is(x) => Value::Is(drop_at(s[U_COMP], x, sheet::module_factor(s))),
     }
 }
 

@@ -12,8 +12,8 @@ enum-known-i c = search needs
 element-copy-out-drop-at : tie.Need-element-copy-out-drop-at
 element-copy-out-drop-at c = search needs
 
-module-rating-requires : tie.Need-module-rating-requires
-module-rating-requires c κs = search needs
+module-factor-requires : tie.Need-module-factor-requires
+module-factor-requires c κs = search needs
 
 drop-at-requires : tie.Need-drop-at-requires
 drop-at-requires c κs = search drops
@@ -31,7 +31,7 @@ voltage-drop-spec =
     enum-told
     enum-known-i
     element-copy-out-drop-at
-    module-rating-requires
+    module-factor-requires
     drop-at-requires
     returns
     returns-2)
