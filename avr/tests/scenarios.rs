@@ -143,49 +143,52 @@ fn a_tick_is_36_bytes_in_the_order_of_the_format() {
     assert_eq!(recorded, wanted);
 }
 
+/// A scenario, HEAD standing for a header, and what is told of it.
+const BAD_SCENARIOS: [(&str, &str); 29] = [
+    ("", "file: no row is in it"),
+    ("# nothing\n", "file: no row is in it"),
+    ("time,U_AB\n0,1\n1,end", "file:1: the first column must be `seconds` or `ticks`, and not `time`"),
+    ("ticks,U_AC\n0,1\n1,end", "file:1: no column is called `U_AC`"),
+    ("ticks,u_ab\n0,1\n1,end", "file:1: no column is called `u_ab`; U_AB is one"),
+    ("ticks,U_AB,U_AB\n0,1\n1,end", "file:1: the column `U_AB` is there twice"),
+    ("ticks,drive_run\n0,1\n1,end", "file:1: the column `drive_run` needs a column `drive`"),
+    (
+        "ticks,drive,switching\n0\n1,end",
+        "file:1: `switching` and `drive` are both there: the simulated drive moves the switching contact",
+    ),
+    ("HEAD0,1", "file: the last row must be its end: a time and the word `end`"),
+    ("HEAD1,1\n2,end", "file:2: the first row must be at time 0"),
+    ("HEAD0,1\n5\n5,2\n9,end", "file:4: the time `5` is not after the row before"),
+    ("HEAD0,1\n0,end", "file:3: the time `0` is not after the row before"),
+    ("HEAD0,end", "file:2: the end comes before any row"),
+    ("HEAD0,1\n2,end,3", "file:3: nothing may follow the word `end`"),
+    ("HEAD0,1\n2,end\n3,1", "file:4: a row after the end"),
+    ("HEAD0,1,1,1,1,1\n2,end", "file:2: 6 cells, and the first row has 5"),
+    ("HEAD0,x\n2,end", "file:2: U_AB: `x` is no reading: 98.2, 98.2 held or invalid"),
+    ("HEAD0,held\n2,end", "file:2: U_AB: `held` is no reading: 98.2, 98.2 held or invalid"),
+    ("HEAD0,,yes\n2,end", "file:2: breaker: `yes` is no contact: 1 or 0, on or off, closed or open"),
+    ("HEAD0,,,100\n2,end", "file:2: BCD: `100` is no BCD code: a tap from 0 to 99, or lines from 0x00 to 0xff"),
+    ("HEAD0,,,,256\n2,end", "file:2: sensor: `256` is no sensor number: 0 to 255"),
+    ("HEAD0,1\n1.5,2\n2,end", "file:3: the time `1.5` is no whole number of ticks"),
+    ("HEAD0,1\n20000001,end", "file:3: the time `20000001` is beyond 100000 s"),
+    ("seconds,U_AB\n0,1\n0.001,2\n1,end", "file:3: the time `0.001` s is no whole number of ticks of 0.005 s"),
+    ("seconds,U_AB\n0,1\nx,2\n1,end", "file:3: the time `x` is not a number"),
+    (
+        "seconds,drive\n0,broken\n1,end",
+        "file:2: drive: `broken` is no drive: ok, does-not-start, runs-on, self-raise, self-lower",
+    ),
+    ("seconds,drive,drive_tap\n0,ok,80\n1,end", "file:2: drive_tap: `80` is no tap of a drive: 1 to 79"),
+    (
+        "seconds,drive,drive_tap\n0,ok,8\n1,,9\n2,end",
+        "file:3: `drive_tap` is the tap at the start, and may stand in the first row only",
+    ),
+    ("seconds,drive,drive_step\n0,ok,999\n1,end", "file:2: drive_step: `999` is no voltage from -200 to 200 V"),
+];
+
 #[test]
 fn bad_scenarios_are_told_with_their_line() {
     let head = "ticks,U_AB,breaker,BCD,sensor\n";
-    for (text, told) in [
-        ("", "file: no row is in it"),
-        ("# nothing\n", "file: no row is in it"),
-        ("time,U_AB\n0,1\n1,end", "file:1: the first column must be `seconds` or `ticks`, and not `time`"),
-        ("ticks,U_AC\n0,1\n1,end", "file:1: no column is called `U_AC`"),
-        ("ticks,u_ab\n0,1\n1,end", "file:1: no column is called `u_ab`; U_AB is one"),
-        ("ticks,U_AB,U_AB\n0,1\n1,end", "file:1: the column `U_AB` is there twice"),
-        ("ticks,drive_run\n0,1\n1,end", "file:1: the column `drive_run` needs a column `drive`"),
-        (
-            "ticks,drive,switching\n0\n1,end",
-            "file:1: `switching` and `drive` are both there: the simulated drive moves the switching contact",
-        ),
-        ("HEAD0,1", "file: the last row must be its end: a time and the word `end`"),
-        ("HEAD1,1\n2,end", "file:2: the first row must be at time 0"),
-        ("HEAD0,1\n5\n5,2\n9,end", "file:4: the time `5` is not after the row before"),
-        ("HEAD0,1\n0,end", "file:3: the time `0` is not after the row before"),
-        ("HEAD0,end", "file:2: the end comes before any row"),
-        ("HEAD0,1\n2,end,3", "file:3: nothing may follow the word `end`"),
-        ("HEAD0,1\n2,end\n3,1", "file:4: a row after the end"),
-        ("HEAD0,1,1,1,1,1\n2,end", "file:2: 6 cells, and the first row has 5"),
-        ("HEAD0,x\n2,end", "file:2: U_AB: `x` is no reading: 98.2, 98.2 held or invalid"),
-        ("HEAD0,held\n2,end", "file:2: U_AB: `held` is no reading: 98.2, 98.2 held or invalid"),
-        ("HEAD0,,yes\n2,end", "file:2: breaker: `yes` is no contact: 1 or 0, on or off, closed or open"),
-        ("HEAD0,,,100\n2,end", "file:2: BCD: `100` is no BCD code: a tap from 0 to 99, or lines from 0x00 to 0xff"),
-        ("HEAD0,,,,256\n2,end", "file:2: sensor: `256` is no sensor number: 0 to 255"),
-        ("HEAD0,1\n1.5,2\n2,end", "file:3: the time `1.5` is no whole number of ticks"),
-        ("HEAD0,1\n20000001,end", "file:3: the time `20000001` is beyond 100000 s"),
-        ("seconds,U_AB\n0,1\n0.001,2\n1,end", "file:3: the time `0.001` s is no whole number of ticks of 0.005 s"),
-        ("seconds,U_AB\n0,1\nx,2\n1,end", "file:3: the time `x` is not a number"),
-        (
-            "seconds,drive\n0,broken\n1,end",
-            "file:2: drive: `broken` is no drive: ok, does-not-start, runs-on, self-raise, self-lower",
-        ),
-        ("seconds,drive,drive_tap\n0,ok,80\n1,end", "file:2: drive_tap: `80` is no tap of a drive: 1 to 79"),
-        (
-            "seconds,drive,drive_tap\n0,ok,8\n1,,9\n2,end",
-            "file:3: `drive_tap` is the tap at the start, and may stand in the first row only",
-        ),
-        ("seconds,drive,drive_step\n0,ok,999\n1,end", "file:2: drive_step: `999` is no voltage from -200 to 200 V"),
-    ] {
+    for (text, told) in BAD_SCENARIOS {
         assert_eq!(problems(&text.replace("HEAD", head)), [told], "{text}");
     }
 }

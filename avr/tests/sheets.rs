@@ -67,44 +67,46 @@ fn the_module_takes_0_and_1() {
     }
 }
 
+const MANUAL_DEFAULTS: [&str; 32] = [
+    "I_nom = 1 A",
+    "U_supp4 = 100 V",
+    "dU_set = 2 V",
+    "U_comp = 5 V",
+    "I_set1 = 1 A",
+    "I_set3 = 0.1 A",
+    "U_set1 = 120 V",
+    "U_set2 = 80 V",
+    "U_set3 = 10 V",
+    "U_set4 = 5 V",
+    "U_set5 = 110 V",
+    "T1 = 120 s",
+    "T2 = 60 s",
+    "T3 = 20 s",
+    "T4 = 15 s",
+    "T5 = 5 s",
+    "T6 = 0 s",
+    "T7 = 0 s",
+    "T8 = 10 s",
+    "T9 = 9 s",
+    "T10 = 9 s",
+    "T11 = 0.05 s",
+    "T15 = 0.05 s",
+    "N_pos = 20",
+    "N_R = 40",
+    "N_L = 1",
+    "N_start = 0",
+    "N_max = 50000",
+    "N10 = empty",
+    "XB14 = block",
+    "XB17 = pulse",
+    "XB20 = off",
+];
+
 #[test]
 fn the_defaults_are_those_of_the_manual() {
     let list = sheet::read(&file("XB1 = off")).expect("defaults").list;
     let text = sheet::to_text(&list);
-    for line in [
-        "I_nom = 1 A",
-        "U_supp4 = 100 V",
-        "dU_set = 2 V",
-        "U_comp = 5 V",
-        "I_set1 = 1 A",
-        "I_set3 = 0.1 A",
-        "U_set1 = 120 V",
-        "U_set2 = 80 V",
-        "U_set3 = 10 V",
-        "U_set4 = 5 V",
-        "U_set5 = 110 V",
-        "T1 = 120 s",
-        "T2 = 60 s",
-        "T3 = 20 s",
-        "T4 = 15 s",
-        "T5 = 5 s",
-        "T6 = 0 s",
-        "T7 = 0 s",
-        "T8 = 10 s",
-        "T9 = 9 s",
-        "T10 = 9 s",
-        "T11 = 0.05 s",
-        "T15 = 0.05 s",
-        "N_pos = 20",
-        "N_R = 40",
-        "N_L = 1",
-        "N_start = 0",
-        "N_max = 50000",
-        "N10 = empty",
-        "XB14 = block",
-        "XB17 = pulse",
-        "XB20 = off",
-    ] {
+    for line in MANUAL_DEFAULTS {
         assert!(text.contains(&format!("\n{line} ")), "{line}\n{text}");
     }
     assert_eq!(slot_of("I_nom = 5 A", 25), 5000);

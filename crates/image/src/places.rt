@@ -21,7 +21,7 @@ fn count_of(o: Organ) -> u32
     o.count
 }
 
-pub fn organ_numbers(organs: [Organ; 7]) -> OrganNumbers
+pub(crate) fn organ_numbers(organs: [Organ; 7]) -> OrganNumbers
     ensures { λ r. ⌜ r ≡ organNumbers organs ⌝ }
 {
     let mut marks = [0u32; 7];
@@ -50,7 +50,7 @@ fn organ_of(mark: u32, count: u32) -> Organ
     }
 }
 
-pub fn organs_of(marks: [u32; 7], counts: [u32; 7]) -> [Organ; 7]
+pub(crate) fn organs_of(marks: [u32; 7], counts: [u32; 7]) -> [Organ; 7]
     ensures { λ r. ⌜ r ≡ organsOf marks counts ⌝ }
 {
     let cleared = Organ {
@@ -68,7 +68,7 @@ pub fn organs_of(marks: [u32; 7], counts: [u32; 7]) -> [Organ; 7]
 }
 
 // Whether each number is a mark: 0 or 1.
-pub fn are_marks(marks: [u32; 7]) -> bool
+pub(crate) fn are_marks(marks: [u32; 7]) -> bool
     ensures { λ b. ⌜ b ≡ areMarks marks ⌝ }
 {
     let mut i: usize = 0;

@@ -9,21 +9,21 @@ fn number(n: u64) {
     io::print_decimal(STDERR_FILENO, n);
 }
 
-pub fn usage() {
+pub(crate) fn usage() {
     text(b"usage: replay SHEET RECORDING\n");
 }
 
-pub fn cannot_read(path: &[u8]) {
+pub(crate) fn cannot_read(path: &[u8]) {
     text(b"replay: cannot read ");
     text(path);
     text(b"\n");
 }
 
-pub fn cannot_write() {
+pub(crate) fn cannot_write() {
     text(b"replay: cannot write the output\n");
 }
 
-pub fn bad_quality(path: &[u8], byte: u8, offset: u64) {
+pub(crate) fn bad_quality(path: &[u8], byte: u8, offset: u64) {
     text(b"replay: ");
     text(path);
     text(b": quality byte ");
@@ -33,7 +33,7 @@ pub fn bad_quality(path: &[u8], byte: u8, offset: u64) {
     text(b" is above 2\n");
 }
 
-pub fn cut_short(path: &[u8], offset: u64) {
+pub(crate) fn cut_short(path: &[u8], offset: u64) {
     text(b"replay: ");
     text(path);
     text(b": the last tick is cut short at offset ");

@@ -8,7 +8,7 @@ pub struct Filled {
 }
 
 // Reads until the buffer is full, the file ends or a read fails. A read may bring less than is asked for.
-pub fn fill(fd: i32, buffer: &mut [u8]) -> Filled
+pub(crate) fn fill(fd: i32, buffer: &mut [u8]) -> Filled
     ensures { λ r. ⌜ Counts (r .got) (now (buffer .exit)) ⌝ }
 {
     let mut done: usize = 0;

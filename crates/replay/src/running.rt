@@ -1,7 +1,10 @@
 // The recording, streamed: some ticks are read, run and their lines written, and then the next ones.
-ghost use Prim.Native.Nat.{_≤_};
+ghost use Prim.Native.Nat.{_+_, _*_, _≤_};
+ghost use mathlib.Core.Path.{_≡_};
 ghost use lib.ListN.{length};
 ghost use Rattle.io.specs.Counts.{Counts};
+ghost use Rattle.recording.specs.Recorded.{decodedOf};
+ghost use Rattle.replay.specs.Played.{stepOf, linesOf, playedBy, playedOf};
 use crate::failing;
 use crate::reading;
 use libc::STDOUT_FILENO;
@@ -48,8 +51,9 @@ struct Advanced {
 
 // The tick at this place, its line put at the end of the lines.
 fn step(state: Regulator, bytes: &[u8], at: usize, lines: &mut [u8], end: usize) -> Stepped
-    requires { ⌜ end ≤ length (now lines) ⌝ }
-    ensures { λ r. ⌜ r .end ≤ length (now (lines .exit)) ⌝ }
+    requires { ⌜ end + 308 ≤ length (now lines) ⌝ }
+    ensures step { λ r. ⌜ r ≡ stepOf (decodedOf (now (bytes .entry)) at) state end ⌝ }
+    ensures text { λ r. ⌜ now (lines .exit) ≡ linesOf (decodedOf (now (bytes .entry)) at) state (now (lines .entry)) end ⌝ }
 {
     let decoded = recording::ticks::decode_tick(bytes, at);
     match decoded {
@@ -78,9 +82,12 @@ fn step(state: Regulator, bytes: &[u8], at: usize, lines: &mut [u8], end: usize)
     }
 }
 
-// The whole ticks of a chunk, up to one that cannot be decoded.
+// The whole ticks of a chunk, up to one that cannot be decoded. There is room for 308 bytes a line: 28 numbers of at most ten
+// digits, each with what stands after it.
 fn run_ticks(state: Regulator, bytes: &[u8], lines: &mut [u8]) -> Ran
-    ensures { λ r. ⌜ Counts (r .end) (now (lines .exit)) ⌝ }
+    requires { ⌜ 308 * length (now bytes) ≤ 36 * length (now lines) ⌝ }
+    ensures played { λ r. ⌜ playedBy r (now (lines .exit)) ≡ playedOf state (now (bytes .entry)) ⌝ }
+    ensures counts { λ r. ⌜ Counts (r .end) (now (lines .exit)) ⌝ }
 {
     let mut next = state;
     let mut done: usize = 0;
@@ -102,7 +109,10 @@ fn run_ticks(state: Regulator, bytes: &[u8], lines: &mut [u8]) -> Ran
 }
 
 // Runs a chunk and writes its lines.
-fn run_chunk(state: Regulator, bytes: &[u8]) -> Written {
+fn run_chunk(state: Regulator, bytes: &[u8]) -> Written
+    requires { ⌜ length (now bytes) ≤ 2304 ⌝ }
+    ensures { λ r. ⌜ (r .next ≡ playedOf state (now (bytes .entry)) .state) × (r .done ≡ playedOf state (now (bytes .entry)) .done) ⌝ }
+{
     let mut lines = [0u8; LINES];
     let ran = run_ticks(state, bytes, &mut lines);
     let end = ran.end;
@@ -169,7 +179,7 @@ fn run_some(fd: i32, path: &[u8], state: Regulator, offset: u64) -> Advanced {
 }
 
 // A proved loop has to end, and nothing says that a file does. So it counts its turns down, from a number that no run uses up.
-pub fn run_all(fd: i32, path: &[u8], state: Regulator) {
+pub(crate) fn run_all(fd: i32, path: &[u8], state: Regulator) {
     let mut next = state;
     let mut offset: u64 = 0;
     let mut turns = u64::MAX;

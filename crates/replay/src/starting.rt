@@ -63,7 +63,7 @@ fn go_on(recording: &[u8], started: Started) {
     }
 }
 
-pub fn replay(sheet: &[u8], recording: &[u8]) {
+pub(crate) fn replay(sheet: &[u8], recording: &[u8]) {
     let fd = os::open_read(sheet);
     if fd < 0 {
         failing::cannot_read(sheet);

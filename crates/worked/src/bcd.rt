@@ -16,7 +16,7 @@ fn print_code(s: &[u32; SLOTS], lines: u8) {
     print::last(p.range_error as u64);
 }
 
-pub fn print_codes() {
+pub(crate) fn print_codes() {
     let mut s = sheets::BASE;
     s[TAP_SOURCE] = 1;
     let mut lines: u32 = 0;

@@ -1,16 +1,16 @@
 // Text and numbers on standard output.
 use libc::STDOUT_FILENO;
 
-pub fn text(t: &[u8]) {
+pub(crate) fn text(t: &[u8]) {
     io::write_all(STDOUT_FILENO, t);
 }
 
-pub fn number(n: u64) {
+pub(crate) fn number(n: u64) {
     io::print_decimal(STDOUT_FILENO, n);
 }
 
 // The last number of a line.
-pub fn last(n: u64) {
+pub(crate) fn last(n: u64) {
     number(n);
     text(b"\n");
 }

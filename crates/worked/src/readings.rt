@@ -67,7 +67,7 @@ fn print_good(c: Channel, list: &[u32]) {
     }
 }
 
-pub fn print_listed() {
+pub(crate) fn print_listed() {
     print_good(Channel::Voltage, &VOLTAGES);
     print_good(Channel::Current1A, &CURRENTS);
     let bits: u32 = 0x4348_0000;
@@ -131,7 +131,7 @@ fn generated() -> u64 {
     sum
 }
 
-pub fn print_generated() {
+pub(crate) fn print_generated() {
     print::text(b"readings 20000 ");
     print::last(generated());
 }

@@ -125,7 +125,7 @@ const TRIED: [u32; 46] = [
 ];
 
 // The same sheet for a 5 A module.
-pub fn base_5a() -> [u32; SLOTS] {
+pub(crate) fn base_5a() -> [u32; SLOTS] {
     let mut list = BASE;
     list[MODULE] = 1;
     list[ORGAN_LIMITS] = 5_000;
@@ -154,7 +154,7 @@ fn longer() -> [u32; 64] {
     list
 }
 
-pub fn print_lengths() {
+pub(crate) fn print_lengths() {
     let base = BASE;
     let long = longer();
     print_answer(&base);
@@ -190,7 +190,7 @@ fn add_slot(sum: u64, base: [u32; SLOTS], i: usize) -> u64
     total
 }
 
-pub fn print_slots(word: &[u8], base: [u32; SLOTS]) {
+pub(crate) fn print_slots(word: &[u8], base: [u32; SLOTS]) {
     let mut sum = sum::START;
     let mut i: usize = 0;
     while i < SLOTS {

@@ -4,7 +4,7 @@ ghost use Prim.Native.Nat.{_<_};
 pub const START: u64 = 7;
 
 // The checksum with one number more.
-pub fn add(sum: u64, n: u64) -> u64
+pub(crate) fn add(sum: u64, n: u64) -> u64
     requires { ⌜ (sum < 1000003) × (n < 1099511627776) ⌝ }
     ensures { λ r. ⌜ r < 1000003 ⌝ }
 {

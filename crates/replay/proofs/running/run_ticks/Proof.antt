@@ -1,22 +1,22 @@
 -- `replay::running::run_ticks` meets its contract. The measure is what is left of the bytes.
 -- Assumes nothing.
-use native.Mathlib.Omega.{arith}
-use Rattle.io.proofs.Counting.{counts}
+use borrow.Author.Tests.{not-true, not-false}
 use borrow.Author.Needs.{needs}
 use lib.ListN.{length}
-use mathlib.Core.Path.{_≡_}
-use Prim.Native.Nat.{_≤_, _-_}
+use Prim.Native.Nat.{_-_}
+use Rattle.replay.specs.Played.{playedOf}
+use Rattle.replay.proofs.Runs.{Going, going-start, going-on, going-stop, going-end, going-counts, stop-counts}
 use Rattle.replay.proofs.running.run_ticks.Statement.{statement}
 use Rattle.replay.proofs.running.run_ticks.Tie as tie
 
 abbrev Inv-loop : tie.InvT-loop
-Inv-loop bytes lines₀ next₀ done₀ end₀ lines next done end = (done ≤ length bytes) × (end ≤ length lines) × (length lines ≡ length lines₀)
+Inv-loop bytes lines₀ next₀ done₀ end₀ lines next done end = Going bytes (playedOf next₀ bytes) (length lines₀) next done end lines
 
 abbrev μ-loop : tie.MeasureT-loop
 μ-loop bytes lines₀ next₀ done₀ end₀ lines next done end = length bytes - done
 
 loop-holds : tie.Need-loop-holds Inv-loop μ-loop
-loop-holds c = search needs
+loop-holds c = going-start _ _ _
 
 sub-loop : tie.Need-sub-loop Inv-loop μ-loop
 sub-loop c = search needs
@@ -31,19 +31,26 @@ loop-less : tie.Need-loop-less Inv-loop μ-loop
 loop-less c = search needs
 
 loop-again : tie.Need-loop-again Inv-loop μ-loop
-loop-again c = search needs
+loop-again c =
+    let a = c .before .before .before .before .before in
+    going-on (a .before .before .before .loop .inv) (search needs) (search needs) (a .step .ensures .0) (a .step .ensures .1) (search (needs, not-false))
 
 same-length : tie.Need-same-length Inv-loop μ-loop
 same-length c = search needs
 
 returns : tie.Need-returns Inv-loop μ-loop
-returns c = search (needs, counts)
+returns c = (going-end (c .before .loop .inv) (search needs), going-counts (c .before .loop .inv) (search needs))
 
 same-length-2 : tie.Need-same-length-2 Inv-loop μ-loop
 same-length-2 c = search needs
 
 returns-2 : tie.Need-returns-2 Inv-loop μ-loop
-returns-2 c = counts _ _ (omega arith)
+returns-2 c =
+    let a = c .before .before .before .before in
+    let g = a .before .before .before .loop .inv in (
+      going-stop g (a .step .ensures .0) (a .step .ensures .1) (search (needs, not-true)),
+      stop-counts g (a .step .ensures .0) (a .step .ensures .1) (search (needs, not-true)) (search needs),
+    )
 
 pub run-ticks-spec : {M : Type 1} → statement M
 run-ticks-spec =

@@ -1,7 +1,7 @@
--- `replay::running::step` meets its contract: the line ends within the lines.
+-- `replay::running::step` meets its contract.
 -- Assumes nothing.
-use native.Mathlib.Omega.{arith}
 use borrow.Author.Needs.{needs}
+use Rattle.replay.proofs.Runs.{step-tick, step-bad, step-short}
 use Rattle.replay.proofs.running.step.Statement.{statement}
 use Rattle.replay.proofs.running.step.Tie as tie
 
@@ -30,13 +30,16 @@ same-length : tie.Need-same-length
 same-length c = search needs
 
 returns : tie.Need-returns
-returns c = c .before .before .write-line .ensures .1 .1 (omega arith)
+returns c =
+    let w = c .before .before in
+    let t = w .before .before .before .before .before .before in
+    step-tick _ _ _ _ _ (t .before .before .before .before .decode-tick .ensures) (search needs) (search needs) (t .tick .ensures .0) (w .write-line .ensures .0) (w .write-line .ensures .1 .0)
 
 returns-2 : tie.Need-returns-2
-returns-2 c = search needs
+returns-2 c = step-bad _ _ _ _ _ (c .before .before .decode-tick .ensures) _ _ (c .enum-told .given .1)
 
 returns-3 : tie.Need-returns-3
-returns-3 c = search needs
+returns-3 c = step-short _ _ _ _ _ (c .before .before .decode-tick .ensures) (search needs)
 
 pub step-spec : {M : Type 1} → statement M
 step-spec =

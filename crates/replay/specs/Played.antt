@@ -1,0 +1,58 @@
+-- What a run over the bytes of a recording gives: for each tick in order, up to one that cannot be decoded, a line of its 28 outputs.
+-- Definitions only.
+use Prim.Native.Nat.{ℕ, zero, suc, _+_}
+use mathlib.Core.Bool.{true, false}
+use mathlib.Core.List.{List, [], _++_}
+use lib.ListN.{length, take}
+use Rattle.input.specs.declared.Input.{Input}
+use Rattle.record.specs.declared.Regulator.{Regulator}
+use Rattle.recording.specs.declared.ticks.Decoded.{Decoded}
+use Rattle.recording.specs.declared.ticks.Decoded.the-variants.{Tick, BadQuality, CutShort}
+use Rattle.recording.specs.Lines.{lineOf, placed}
+use Rattle.recording.specs.Recorded.{decodedOf}
+use Rattle.regulator.specs.Ticks.{tickOf}
+use Rattle.replay.specs.declared.running.Ran.{Ran}
+use Rattle.replay.specs.declared.running.Stepped.{Stepped}
+
+-- the record after some ticks, the bytes that they took, and their lines
+pub record Played : Type 0 where
+  pub state : Regulator
+  pub done : ℕ
+  pub text : List ℕ
+
+-- the line of a tick
+abbrev pub lineAt : Regulator → Input → List ℕ
+lineAt r i = lineOf (tickOf r i .reply .outputs)
+
+-- one tick more
+abbrev pub playedOn : Played → Input → Played
+playedOn p i = record { state = tickOf (p .state) i .next; done = p .done + 36; text = p .text ++ lineAt (p .state) i }
+
+abbrev pub onTick : Decoded → (Input → Played) → Played → Played
+onTick (Tick i) f p = f i
+onTick (BadQuality a b) f p = p
+onTick CutShort f p = p
+
+-- at most n ticks more
+unfoldable pub playFrom : ℕ → List ℕ → Played → Played
+playFrom zero bytes p = p
+playFrom (suc n) bytes p = onTick (decodedOf bytes (p .done)) (λ i. playFrom n bytes (playedOn p i)) p
+
+-- all of them: there are no more ticks than bytes
+unfoldable pub playedOf : Regulator → List ℕ → Played
+playedOf r bytes = playFrom (length bytes) bytes (record { state = r; done = 0; text = [] })
+
+-- a run's answer with its lines, as what it has played
+abbrev pub playedBy : Ran → List ℕ → Played
+playedBy r lines = record { state = r .next; done = r .done; text = take (r .end) lines }
+
+-- after the tick at a place, its line put at the end of the lines
+abbrev pub stepOf : Decoded → Regulator → ℕ → Stepped
+stepOf (Tick i) r end = record { next = tickOf r i .next; end = end + length (lineAt r i); taken = true }
+stepOf (BadQuality a b) r end = record { next = r; end = end; taken = false }
+stepOf CutShort r end = record { next = r; end = end; taken = false }
+
+abbrev pub linesOf : Decoded → Regulator → List ℕ → ℕ → List ℕ
+linesOf (Tick i) r lines end = placed lines end (lineAt r i)
+linesOf (BadQuality a b) r lines end = lines
+linesOf CutShort r lines end = lines
