@@ -1,6 +1,7 @@
 -- What the host's two functions answer. Definitions only.
 use mathlib.Core.Bool.{Bool, _&&_}
 use lib.ListN.{replicate}
+use Rattle.showing.specs.Showing.{fieldCount}
 use Rattle.common.specs.Choice.{choose}
 use Rattle.record.specs.declared.Regulator.{Regulator}
 use Rattle.record.specs.Limits.{withinOf}
@@ -27,7 +28,7 @@ advancedOf r b = tickedImage (tickOf r (inputOf b))
 
 -- 4, outputs all 0, the image left as it was
 unfoldable pub refusedImage : Image → ImageTicked
-refusedImage m = record { refusal = 4; outputs = record { fields = replicate 28 0 }; next = m }
+refusedImage m = record { refusal = 4; outputs = record { fields = replicate fieldCount 0 }; next = m }
 
 -- the image is a record within its limits
 unfoldable pub isAccepted : Image → Bool

@@ -7,9 +7,8 @@ use Prim.Native.Nat.{ℕ, _+_, _<_, _≤_}
 use native.Mathlib.Omega.{arith}
 use borrow.Author.Tests.{le-leb, lt-leb}
 use lib.ListN.{length, getD}
-use Rattle.common.specs.Places.{zip}
+use Rattle.common.specs.Places.{zip, every}
 use Rattle.organ.specs.declared.Organ.{Organ}
-use Rattle.common.specs.Places.{every}
 use Rattle.common.proofs.Places.{rest, rest-on, rest-no, rest-none}
 use Rattle.common.proofs.Joined.{and-left, and-right}
 use Rattle.image.specs.declared.places.OrganNumbers.{OrganNumbers}

@@ -3,9 +3,8 @@ use Prim.Native.Nat.{ℕ}
 use mathlib.Core.Bool.{Bool}
 use mathlib.Core.List.{List, map}
 use lib.Dec.{eqb}
-use Rattle.common.specs.Places.{zip}
+use Rattle.common.specs.Places.{zip, every}
 use Rattle.organ.specs.declared.Organ.{Organ}
-use Rattle.common.specs.Places.{every}
 use Rattle.image.specs.declared.places.OrganNumbers.{OrganNumbers}
 use Rattle.coding.specs.Numbers.{bitOf, isBit}
 

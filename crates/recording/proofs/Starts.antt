@@ -7,6 +7,7 @@ use Prim.Native.Nat.{ℕ, _+_, _*_, _<_, _≤_}
 use native.Mathlib.Omega.{arith}
 use borrow.Author.Tests.{eq-eqb, ne-eqb}
 use lib.ListN.{length, set, replicate}
+use Rattle.slots.specs.Slots.{slots}
 use Rattle.common.specs.Choice.{choose}
 use Rattle.common.proofs.Cases.{yes, no}
 use Rattle.common.proofs.Fill.{filled, none-filled, fill-more, all-filled}
@@ -20,26 +21,26 @@ use Rattle.recording.specs.declared.sheets.SheetNumbers.{SheetNumbers}
 module _ (s : List ℕ) where
   -- the numbers before the ith are there
   abbrev pub Upto : ℕ → List ℕ → Type 0
-  Upto i list = list ≡ filled (numberIn s) i (replicate 63 0)
+  Upto i list = list ≡ filled (numberIn s) i (replicate slots 0)
 
-  pub none-read : Upto 0 (replicate 63 0)
-  none-read = none-filled (numberIn s) (replicate 63 0)
+  pub none-read : Upto 0 (replicate slots 0)
+  none-read = none-filled (numberIn s) (replicate slots 0)
 
-  pub one-read : {list : List ℕ} {i n : ℕ} → Upto i list → n ≡ numberAt s (4 * i) → i < 63 → Upto (i + 1) (set list i n)
+  pub one-read : {list : List ℕ} {i n : ℕ} → Upto i list → n ≡ numberAt s (4 * i) → i < slots → Upto (i + 1) (set list i n)
   unfolding numberIn
-  one-read {i = i} inv e h = rw (inv, e) (fill-more (numberIn s) (replicate 63 0) i h)
+  one-read {i = i} inv e h = rw (inv, e) (fill-more (numberIn s) (replicate slots 0) i h)
 
-  pub all-read : {list : List ℕ} {i : ℕ} → Upto i list → i ≤ 63 → 63 ≤ i → list ≡ numbersOf s
+  pub all-read : {list : List ℕ} {i : ℕ} → Upto i list → i ≤ slots → slots ≤ i → list ≡ numbersOf s
   unfolding numbersOf
   all-read {i = i} inv h l =
-      let e : i ≡ 63 = omega arith in
-      inv ∙ rw e (all-filled (numberIn s) (replicate 63 0) 63 refl)
+      let e : i ≡ slots = omega arith in
+      inv ∙ rw e (all-filled (numberIn s) (replicate slots 0) slots refl)
 
-  pub not-whole : (length s ≡ 252 → ⊥) → _≡_ {A = SheetNumbers} (record { whole = false; numbers = replicate 63 0 }) (sheetFileOf s)
+  pub not-whole : (length s ≡ 4 * slots → ⊥) → _≡_ {A = SheetNumbers} (record { whole = false; numbers = replicate slots 0 }) (sheetFileOf s)
   unfolding sheetFileOf
   not-whole h = no _ _ _ _ (ne-eqb _ _ h) refl
 
-  pub whole : {list : List ℕ} → length s ≡ 252 → list ≡ numbersOf s → _≡_ {A = SheetNumbers} (record { whole = true; numbers = list }) (sheetFileOf s)
+  pub whole : {list : List ℕ} → length s ≡ 4 * slots → list ≡ numbersOf s → _≡_ {A = SheetNumbers} (record { whole = true; numbers = list }) (sheetFileOf s)
   unfolding sheetFileOf
   whole h e = rw e (yes _ _ _ _ (eq-eqb _ _ h) refl)
 
@@ -61,13 +62,13 @@ as-none false f ns zs e p = refl
 module _ (s : List ℕ) {f : SheetNumbers} (e : f ≡ sheetFileOf s) {x : Start} where
   pub start-whole : f .whole ≡ true → x ≡ startOf (f .numbers) → x ≡ startOf (listOf s)
   unfolding sheetFileOf listOf
-  start-whole p q = q ∙ ap startOf (as-read (isWhole s) f (numbersOf s) (replicate 63 0) e p)
+  start-whole p q = q ∙ ap startOf (as-read (isWhole s) f (numbersOf s) (replicate slots 0) e p)
 
   pub start-other : f .whole ≡ false → x ≡ startOf [] → x ≡ startOf (listOf s)
   unfolding sheetFileOf listOf
-  start-other p q = q ∙ ap startOf (as-none (isWhole s) f (numbersOf s) (replicate 63 0) e p)
+  start-other p q = q ∙ ap startOf (as-none (isWhole s) f (numbersOf s) (replicate slots 0) e p)
 
 -- a file of another length is refused with 1
-pub refused : (s : List ℕ) (r : Started) → repliedOf r ≡ startOf (listOf s) → (repliedOf r ≡ startOf (listOf s)) × ((length s ≡ 252 → ⊥) → numberOf (r .answer) ≡ 1)
+pub refused : (s : List ℕ) (r : Started) → repliedOf r ≡ startOf (listOf s) → (repliedOf r ≡ startOf (listOf s)) × ((length s ≡ 4 * slots → ⊥) → numberOf (r .answer) ≡ 1)
 unfolding listOf startOf returnedOf choose
 refused s r e = (e, λ h. ap (λ (x : Start). x .number) (e ∙ ap startOf (sym (no _ _ _ _ (ne-eqb _ _ h) refl))))

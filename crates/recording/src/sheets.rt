@@ -1,8 +1,10 @@
 // A setting sheet from the bytes of its file.
+ghost use Prim.Native.Nat.{_*_};
 ghost use mathlib.Core.Path.{_≡_};
 ghost use lib.ListN.{length};
 ghost use Rattle.sheet.specs.Sheet.{numberOf};
 ghost use Rattle.record.specs.Starting.{repliedOf, startOf};
+ghost use Rattle.slots.specs.Slots.{slots};
 ghost use Rattle.recording.specs.SheetFile.{numbersOf, sheetFileOf, listOf};
 use crate::numbers;
 use record::starting::Started;
@@ -19,7 +21,7 @@ pub struct SheetNumbers {
 
 // The numbers of a file that is as long as a sheet's.
 fn numbers_of(bytes: &[u8]) -> [u32; SLOTS]
-    requires { ⌜ length (now bytes) ≡ 252 ⌝ }
+    requires { ⌜ length (now bytes) ≡ 4 * slots ⌝ }
     ensures { λ r. ⌜ r ≡ numbersOf (now (bytes .entry)) ⌝ }
 {
     let mut list = [0u32; SLOTS];
@@ -51,7 +53,7 @@ pub fn decode_sheet(bytes: &[u8]) -> SheetNumbers
 // The reply to a sheet's file: a file of another length is a list that is not 63 long.
 pub fn start(bytes: &[u8]) -> Started
     ensures reply { λ r. ⌜ repliedOf r ≡ startOf (listOf (now (bytes .entry))) ⌝ }
-    ensures refused { λ r. ⌜ ((length (now (bytes .entry)) ≡ 252 → ⊥) → numberOf (r .answer) ≡ 1) ⌝ }
+    ensures refused { λ r. ⌜ ((length (now (bytes .entry)) ≡ 4 * slots → ⊥) → numberOf (r .answer) ≡ 1) ⌝ }
 {
     let file = decode_sheet(bytes);
     let numbers = file.numbers;

@@ -25,7 +25,7 @@ use Rattle.sensing.specs.Assessing.{assessedOf}
 use Rattle.acting.specs.Supervising.{supervisedOf}
 use Rattle.acting.specs.Commanding.{blockedOf, regulatedOf}
 use Rattle.acting.specs.Accounting.{accountedOf}
-use Rattle.showing.specs.Showing.{outputsOf}
+use Rattle.showing.specs.Showing.{fieldCount, outputsOf}
 use Rattle.regulator.specs.declared.Acted.{Acted}
 use Rattle.regulator.specs.declared.Sensed.{Sensed}
 use Rattle.regulator.specs.declared.Ticked.{Ticked}
@@ -136,11 +136,11 @@ isOut r c = eqb (slot (r .settings) inService) 0 || c .out
 
 -- "the record becomes the fresh one, all outputs 0, tick over"
 unfoldable pub outOf : Regulator → Ticked
-outOf r = record { reply = record { refusal = 0; outputs = replicate 28 0 }; next = freshOf (r .settings) }
+outOf r = record { reply = record { refusal = 0; outputs = replicate fieldCount 0 }; next = freshOf (r .settings) }
 
 -- "tick on a record outside its limits": 4, outputs all 0, the record left as it was
 unfoldable pub refusedOf : Regulator → Ticked
-refusedOf r = record { reply = record { refusal = 4; outputs = replicate 28 0 }; next = r }
+refusedOf r = record { reply = record { refusal = 4; outputs = replicate fieldCount 0 }; next = r }
 
 -- the tick
 unfoldable pub tickOf : Regulator → Input → Ticked

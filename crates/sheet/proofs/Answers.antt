@@ -10,7 +10,7 @@ use native.Mathlib.Nat.{mod-one}
 use borrow.Author.Tests.{eqb-true, lt-ltb, le-ltb, le-leb, lt-leb, eq-eqb, ne-eqb}
 use Rattle.common.specs.Choice.{choose}
 use Rattle.common.proofs.Cases.{yes, no}
-use Rattle.slots.specs.Slots.{slot, nPos, nR, nL}
+use Rattle.slots.specs.Slots.{slot, nPos, nR, nL, slots}
 use Rattle.sheet.specs.Table.{takenBy}
 use Rattle.sheet.specs.Sheet.{isTaken, firstOutOfRange, wrongLength, outOfRange, endsCrossed, posOutside, judgeOf, passesOf, answerOf, zeros, sheetWith, sheetOf, replyOf, returnedOf}
 use Rattle.sheet.specs.declared.Answer.{Answer}
@@ -55,19 +55,19 @@ within s = leb (slot s nL) (slot s nPos) && leb (slot s nPos) (slot s nR)
 
 -- a list of the right length
 module _ (s : List ℕ) {n : ℕ} (p : n ≡ firstOutOfRange s) where
-  pub slot-refused : n < 63 → OutOfRange n ≡ judgeOf s
+  pub slot-refused : n < slots → OutOfRange n ≡ judgeOf s
   unfolding judgeOf
   slot-refused h = rw (← p) (yes _ _ _ _ (lt-ltb _ _ h) refl)
 
-  pub ends-refused : 63 ≤ n → slot s nR ≤ slot s nL → TapOrder 49 ≡ judgeOf s
+  pub ends-refused : slots ≤ n → slot s nR ≤ slot s nL → TapOrder 49 ≡ judgeOf s
   unfolding judgeOf
   ends-refused h c = rw (← p) (no _ _ _ _ (le-ltb _ _ h) (yes _ _ _ _ (le-leb _ _ c) refl))
 
-  pub pos-refused : 63 ≤ n → slot s nL < slot s nR → within s ≡ false → TapOrder 48 ≡ judgeOf s
+  pub pos-refused : slots ≤ n → slot s nL < slot s nR → within s ≡ false → TapOrder 48 ≡ judgeOf s
   unfolding judgeOf
   pos-refused h c e = rw (← p) (no _ _ _ _ (le-ltb _ _ h) (no _ _ _ _ (lt-leb _ _ c) (yes _ _ _ _ (ap not e) refl)))
 
-  pub not-refused : 63 ≤ n → slot s nL < slot s nR → within s ≡ true → Taken ≡ judgeOf s
+  pub not-refused : slots ≤ n → slot s nL < slot s nR → within s ≡ true → Taken ≡ judgeOf s
   unfolding judgeOf
   not-refused h c e = rw (← p) (no _ _ _ _ (le-ltb _ _ h) (no _ _ _ _ (lt-leb _ _ c) (no _ _ _ _ (ap not e) refl)))
 
@@ -77,19 +77,19 @@ passes-told s p e = e ∙ ap isTaken p
 
 -- a list of any length
 module _ (s : List ℕ) where
-  pub answer-wrong : (length s ≡ 63 → ⊥) → answerOf s ≡ WrongLength
+  pub answer-wrong : (length s ≡ slots → ⊥) → answerOf s ≡ WrongLength
   unfolding answerOf
   answer-wrong h = sym (yes _ _ _ _ (ap not (ne-eqb _ _ h)) refl)
 
-  pub answer-right : length s ≡ 63 → answerOf s ≡ judgeOf s
+  pub answer-right : length s ≡ slots → answerOf s ≡ judgeOf s
   unfolding answerOf
   answer-right h = sym (no _ _ _ _ (ap not (eq-eqb _ _ h)) refl)
 
-  pub wrong-length : {r : Sheet} (zs : List ℕ) → (length s ≡ 63 → ⊥) → r ≡ sheetWith WrongLength zs → r ≡ sheetOf s
+  pub wrong-length : {r : Sheet} (zs : List ℕ) → (length s ≡ slots → ⊥) → r ≡ sheetWith WrongLength zs → r ≡ sheetOf s
   unfolding sheetOf sheetWith choose
   wrong-length zs h e = e ∙ ap (λ (a : Answer). sheetWith a s) (sym (answer-wrong h))
 
-  pub right-length : {r : Sheet} {a : Answer} {ys : List ℕ} → length s ≡ 63 → ys ≡ s → a ≡ judgeOf ys → r ≡ sheetWith a ys → r ≡ sheetOf s
+  pub right-length : {r : Sheet} {a : Answer} {ys : List ℕ} → length s ≡ slots → ys ≡ s → a ≡ judgeOf ys → r ≡ sheetWith a ys → r ≡ sheetOf s
   unfolding sheetOf
   right-length h p q e = let z : answerOf s ≡ judgeOf s = answer-right h in cc
 

@@ -11,7 +11,7 @@ use lib.Dec.{leb}
 use borrow.Author.Tests.{ltb-false, leb-true, leb-false, le-leb, eqb-true, eq-eqb, not-false}
 use Rattle.common.specs.Choice.{choose}
 use Rattle.common.proofs.Cases.{yes, no}
-use Rattle.slots.specs.Slots.{slot, nPos, nR, nL}
+use Rattle.slots.specs.Slots.{slot, nPos, nR, nL, slots}
 use Rattle.sheet.specs.Table.{lowOf, highOf, stepOf, takenOf, takenBy, Taking}
 use Rattle.sheet.specs.Sheet.{firstFrom, takenIn, firstOutOfRange, judgeOf, answerOf, sheetWith, sheetOf, replyOf, returnedOf}
 use Rattle.sheet.specs.Settings.{Settings}
@@ -84,7 +84,7 @@ refused-tap e = let z : _≡_ {A = ℕ} 0 1 = cc in omega arith
 
 -- what a list that is judged as taken keeps to
 pub record Kept (s : List ℕ) : Type 0 where
-  pub ranges : (i : ℕ) → i < 63 → takenIn s i ≡ true
+  pub ranges : (i : ℕ) → i < slots → takenIn s i ≡ true
   pub ends : slot s nL < slot s nR
   pub above : slot s nL ≤ slot s nPos
   pub below : slot s nPos ≤ slot s nR
@@ -94,11 +94,11 @@ module _ (s : List ℕ) where
   unfolding judgeOf firstOutOfRange
   judged-kept e =
       let a = passed-by _ _ _ _ e refused-slot in
-      let n : 63 ≤ firstOutOfRange s = ltb-false _ _ (a .0) in
+      let n : slots ≤ firstOutOfRange s = ltb-false _ _ (a .0) in
       let b = passed-by _ _ _ _ (a .1) refused-tap in
       let c : within s ≡ true = not-false _ (passed-by _ _ _ _ (b .1) refused-tap .0) in
       record {
-        ranges = λ i h. holds-below (takenIn s) 63 0 i (omega arith) (omega (arith, n));
+        ranges = λ i h. holds-below (takenIn s) slots 0 i (omega arith) (omega (arith, n));
         ends = leb-false _ _ (b .0);
         above = leb-true _ _ (and-left _ _ c);
         below = leb-true _ _ (and-right (leb (slot s nL) (slot s nPos)) _ c);
@@ -109,7 +109,7 @@ module _ (s : List ℕ) where
   kept-judged k =
       sym
       (not-refused s refl
-      (omega (arith, holds-at-all (takenIn s) 63 0 (λ j p q. k .ranges j (omega arith))))
+      (omega (arith, holds-at-all (takenIn s) slots 0 (λ j p q. k .ranges j (omega arith))))
       (k .ends)
       (and-both _ _ (le-leb _ _ (k .above)) (le-leb _ _ (k .below))))
 

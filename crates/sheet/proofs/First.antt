@@ -7,6 +7,7 @@ use Prim.Native.Nat.{ℕ, suc, _+_, _-_, _<_, _≤_}
 use native.Mathlib.Numerals.{add-one}
 use native.Mathlib.Omega.{arith}
 use lib.ListN.{getD}
+use Rattle.slots.specs.Slots.{slots}
 use Rattle.common.proofs.Cases.{yes, no}
 use Rattle.sheet.specs.Sheet.{firstFrom, takenIn, firstOutOfRange}
 use Rattle.sheet.specs.Table.{takenBy, takenOf}
@@ -14,26 +15,26 @@ use Rattle.sheet.proofs.Tables.{Columns}
 
 -- the lowest slot out of range is the lowest from i on
 abbrev pub From : List ℕ → ℕ → Type 0
-From s i = firstOutOfRange s ≡ firstFrom (takenIn s) (63 - i) i
+From s i = firstOutOfRange s ≡ firstFrom (takenIn s) (slots - i) i
 
 pub from-start : (s : List ℕ) → From s 0
 unfolding firstOutOfRange
 from-start s = refl
 
 -- one turn: the slot's number is taken, or it is not
-module _ (s : List ℕ) (i : ℕ) (h : i < 63) where
-  next : 63 - i ≡ suc (63 - (i + 1))
-  next = omega (arith, add-one (63 - (i + 1)))
+module _ (s : List ℕ) (i : ℕ) (h : i < slots) where
+  next : slots - i ≡ suc (slots - (i + 1))
+  next = omega (arith, add-one (slots - (i + 1)))
 
-  step-on : takenIn s i ≡ true → firstFrom (takenIn s) (63 - i) i ≡ firstFrom (takenIn s) (63 - (i + 1)) (i + 1)
+  step-on : takenIn s i ≡ true → firstFrom (takenIn s) (slots - i) i ≡ firstFrom (takenIn s) (slots - (i + 1)) (i + 1)
   unfolding firstFrom
   step-on e = rw (next, add-one i) (sym (yes _ _ _ _ e refl))
 
-  step-here : takenIn s i ≡ false → firstFrom (takenIn s) (63 - i) i ≡ i
+  step-here : takenIn s i ≡ false → firstFrom (takenIn s) (slots - i) i ≡ i
   unfolding firstFrom
   step-here e = rw next (sym (no _ _ _ _ e refl))
 
-module _ (s : List ℕ) {i : ℕ} {lows highs steps : List ℕ} (inv : From s i) (h : i < 63) (c : Columns s lows highs steps) where
+module _ (s : List ℕ) {i : ℕ} {lows highs steps : List ℕ} (inv : From s i) (h : i < slots) (c : Columns s lows highs steps) where
   module _ {t : Bool} (e : t ≡ takenBy (getD lows i 0) (getD highs i 0) (getD steps i 0) (getD s i 0)) where
     told : {b : Bool} → t ≡ b → takenIn s i ≡ b
     unfolding takenIn takenOf
@@ -46,8 +47,8 @@ module _ (s : List ℕ) {i : ℕ} {lows highs steps : List ℕ} (inv : From s i)
     first-here p = sym (inv ∙ step-here s i h (told p))
 
 -- no slot is left
-pub first-past : (s : List ℕ) {i : ℕ} → From s i → i ≤ 63 → 63 ≤ i → i ≡ firstOutOfRange s
+pub first-past : (s : List ℕ) {i : ℕ} → From s i → i ≤ slots → slots ≤ i → i ≡ firstOutOfRange s
 unfolding firstFrom
 first-past s {i} inv h l =
-    let e : i ≡ 63 = omega arith in
+    let e : i ≡ slots = omega arith in
     sym (inv ∙ rw e)

@@ -10,7 +10,7 @@ use lib.Dec.{leb, ltb}
 use borrow.Author.Tests.{leb-true, ltb-true}
 use Rattle.common.specs.Choice.{choose}
 use Rattle.common.proofs.Cases.{chosen}
-use Rattle.slots.specs.Slots.{slot, t1, t2, t3, t4, t5, t6, t7, t8, organDelays, organLimits, uSupp, dU, uComp, uSet5, nPos, nR, nL, nStart, nMax, slidingTaps}
+use Rattle.slots.specs.Slots.{slot, t1, t2, t3, t4, t5, t6, t7, t8, organDelays, organLimits, uSupp, dU, uComp, uSet5, nPos, nR, nL, nStart, nMax, slidingTaps, slots}
 use Rattle.sheet.specs.Table.{rowOf, rowIn, moduleFactor, factorOf, lowOf, highOf, takenOf, takenBy}
 use Rattle.sheet.specs.Sheet.{isTaken, takenIn, judgeOf, passesOf, answerOf}
 use Rattle.sheet.specs.declared.Answer.{Answer}
@@ -58,26 +58,26 @@ module _ (s : List ℕ) (e : passesOf s ≡ true) where
   kept = judged-kept s (pass-judged s e)
 
   -- each slot is within its row
-  pub in-range : (i : ℕ) → i < 63 → (lowOf (moduleFactor s) i ≤ slot s i) × (slot s i ≤ highOf (moduleFactor s) i)
+  pub in-range : (i : ℕ) → i < slots → (lowOf (moduleFactor s) i ≤ slot s i) × (slot s i ≤ highOf (moduleFactor s) i)
   unfolding takenIn takenOf takenBy
   in-range i h =
       let t = kept .ranges i h in
       (leb-true _ _ (and-left _ _ t), leb-true _ _ (and-left _ _ (and-right (leb (lowOf (moduleFactor s) i) (slot s i)) _ t)))
 
   -- and so within bounds that hold with either module
-  pub in-row : (i : ℕ) → i < 63 → (rowOf i .low ≤ slot s i) × (slot s i ≤ topOf i)
+  pub in-row : (i : ℕ) → i < slots → (rowOf i .low ≤ slot s i) × (slot s i ≤ topOf i)
   unfolding lowOf highOf factorOf
   in-row i h =
       let b = row-bounds (rowOf i .scaled) (moduleFactor s) (rowOf i .low) (rowOf i .high) (factor-pos s .0) (factor-pos s .1) in
       (le-trans (b .0) (in-range i h .0), le-trans (in-range i h .1) (b .1))
 
   -- the n slots from a are all within l to h, where antt computes that their rows are
-  pub in-run : (a n l h : ℕ) → allBelow (λ (j : ℕ). ltb (a + j) 63 && (leb l (rowOf (a + j) .low) && leb (topOf (a + j)) h)) n ≡ true
+  pub in-run : (a n l h : ℕ) → allBelow (λ (j : ℕ). ltb (a + j) slots && (leb l (rowOf (a + j) .low) && leb (topOf (a + j)) h)) n ≡ true
       → (j : ℕ) → j < n → (l ≤ slot s (a + j)) × (slot s (a + j) ≤ h)
   in-run a n l h t j p =
-      let c = every (λ (j : ℕ). ltb (a + j) 63 && (leb l (rowOf (a + j) .low) && leb (topOf (a + j)) h)) n t j p in
-      let i : a + j < 63 = ltb-true _ _ (and-left _ _ c) in
-      let d = and-right (ltb (a + j) 63) _ c in
+      let c = every (λ (j : ℕ). ltb (a + j) slots && (leb l (rowOf (a + j) .low) && leb (topOf (a + j)) h)) n t j p in
+      let i : a + j < slots = ltb-true _ _ (and-left _ _ c) in
+      let d = and-right (ltb (a + j) slots) _ c in
       let lo : l ≤ rowOf (a + j) .low = leb-true _ _ (and-left _ _ d) in
       let hi : topOf (a + j) ≤ h = leb-true _ _ (and-right (leb l (rowOf (a + j) .low)) _ d) in
       (le-trans lo (in-row (a + j) i .0), le-trans (in-row (a + j) i .1) hi)

@@ -13,6 +13,7 @@ use borrow.Author.Tests.{eqb-true}
 use mir.Val.{Fits}
 use mir.Syntax.{w32}
 use mir.Facts.{fits-le, fits-lit}
+use Rattle.slots.specs.Slots.{slots}
 use Rattle.common.specs.Choice.{choose}
 use Rattle.common.proofs.Cases.{chosen}
 use Rattle.sheet.specs.Table.{rowOf, rowIn, lowColumn, highColumn, stepColumn, timesK, moduleFactor, factorOf, lowOf, highOf, stepOf}
@@ -33,9 +34,9 @@ times-fits p q = fits-le {n = 40000 * 5} (mul-le-mul p q) (fits-lit tt)
 
 -- the columns of a list's ranges, at every slot
 pub record Columns (s : List ℕ) (lows highs steps : List ℕ) : Type 0 where
-  pub low : (i : ℕ) → i < 63 → getD lows i 0 ≡ lowOf (moduleFactor s) i
-  pub high : (i : ℕ) → i < 63 → getD highs i 0 ≡ highOf (moduleFactor s) i
-  pub step : (i : ℕ) → i < 63 → getD steps i 0 ≡ stepOf i
+  pub low : (i : ℕ) → i < slots → getD lows i 0 ≡ lowOf (moduleFactor s) i
+  pub high : (i : ℕ) → i < slots → getD highs i 0 ≡ highOf (moduleFactor s) i
+  pub step : (i : ℕ) → i < slots → getD steps i 0 ≡ stepOf i
 
 abbrev lowAt : ℕ → ℕ → Bool
 lowAt k i = eqb (getD (timesK k lowColumn) i 0) (lowOf k i)
@@ -43,18 +44,18 @@ lowAt k i = eqb (getD (timesK k lowColumn) i 0) (lowOf k i)
 abbrev highAt : ℕ → ℕ → Bool
 highAt k i = eqb (getD (timesK k highColumn) i 0) (highOf k i)
 
-module _ (i : ℕ) (h : i < 63) where
+module _ (i : ℕ) (h : i < slots) where
   lows-at : (lowAt 1 i ≡ true) × (lowAt 5 i ≡ true)
   unfolding timesK lowColumn lowOf factorOf rowOf rowIn choose
-  lows-at = (every (lowAt 1) 63 refl i h, every (lowAt 5) 63 refl i h)
+  lows-at = (every (lowAt 1) slots refl i h, every (lowAt 5) slots refl i h)
 
   highs-at : (highAt 1 i ≡ true) × (highAt 5 i ≡ true)
   unfolding timesK highColumn highOf factorOf rowOf rowIn choose
-  highs-at = (every (highAt 1) 63 refl i h, every (highAt 5) 63 refl i h)
+  highs-at = (every (highAt 1) slots refl i h, every (highAt 5) slots refl i h)
 
   steps-at : getD stepColumn i 0 ≡ stepOf i
   unfolding stepColumn stepOf rowOf rowIn choose
-  steps-at = eqb-true _ _ (every (λ (j : ℕ). eqb (getD stepColumn j 0) (stepOf j)) 63 refl i h)
+  steps-at = eqb-true _ _ (every (λ (j : ℕ). eqb (getD stepColumn j 0) (stepOf j)) slots refl i h)
 
   module _ (s : List ℕ) where
     low-at : getD (timesK (moduleFactor s) lowColumn) i 0 ≡ lowOf (moduleFactor s) i
@@ -68,7 +69,7 @@ pub columns : (s : List ℕ) {k : ℕ} {lows highs steps : List ℕ} → k ≡ m
 columns s m l u d = record { low = λ i h. rw (l, m) (low-at i h s); high = λ i h. rw (u, m) (high-at i h s); step = λ i h. rw d (steps-at i h) }
 
 -- a step is 1 or 100
-pub step-kind : (s : List ℕ) {i : ℕ} {lows highs steps : List ℕ} → Columns s lows highs steps → i < 63
+pub step-kind : (s : List ℕ) {i : ℕ} {lows highs steps : List ℕ} → Columns s lows highs steps → i < slots
     → (eqb (getD steps i 0) 1 || eqb (getD steps i 0) 100) ≡ true
 unfolding stepOf rowOf rowIn choose
-step-kind s {i} c h = rw (c .step i h) (every (λ (j : ℕ). eqb (stepOf j) 1 || eqb (stepOf j) 100) 63 refl i h)
+step-kind s {i} c h = rw (c .step i h) (every (λ (j : ℕ). eqb (stepOf j) 1 || eqb (stepOf j) 100) slots refl i h)

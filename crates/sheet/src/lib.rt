@@ -20,6 +20,7 @@ ghost use lib.Dec.{eqb};
 ghost use lib.ListN.{length, getD};
 ghost use Rattle.sheet.specs.Table.{moduleFactor, timesK, takenBy};
 ghost use Rattle.sheet.specs.Sheet.{numberOf, slotOf, isTaken, firstOutOfRange, judgeOf, passesOf, sheetWith, sheetOf, replyOf, returnedOf};
+ghost use Rattle.slots.specs.Slots.{slots};
 ghost use Rattle.sheet.specs.Settings.{Settings};
 
 // What the check of a list answers.
@@ -158,7 +159,7 @@ pub fn slot(a: Answer) -> u32
 
 // The list as an array.
 fn copied(list: &[u32]) -> [u32; SLOTS]
-    requires { ⌜ length (now list) ≡ 63 ⌝ }
+    requires { ⌜ length (now list) ≡ slots ⌝ }
     ensures { λ r. ⌜ r ≡ now (list .entry) ⌝ }
 {
     let mut copy = [0u32; SLOTS];

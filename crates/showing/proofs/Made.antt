@@ -8,9 +8,8 @@ use lib.Dec.{eqb}
 use Rattle.slots.specs.Slots.{slot, supplyTrip, t7, t8}
 use Rattle.ways.specs.declared.Way.{Way}
 use Rattle.drive.specs.Follow.{restsOf}
-use Rattle.fault.specs.Latches.{supplyOf}
+use Rattle.fault.specs.Latches.{supplyOf, fieldOf}
 use Rattle.drive.specs.Shown.{onOf}
-use Rattle.fault.specs.Latches.{fieldOf}
 use Rattle.ways.specs.Ways.{raises, lowers}
 use Rattle.showing.specs.declared.Shown.{Shown}
 use Rattle.showing.specs.declared.Signals.{Signals}

@@ -9,12 +9,15 @@ use Rattle.slots.specs.Slots.{slot, supplyTrip, wearCount, t7, t8, nMax}
 use Rattle.busbar.specs.declared.voltage.Level.{Level}
 use Rattle.busbar.specs.declared.voltage.Level.the-variants.{Missing, Low, InBand, High}
 use Rattle.drive.specs.Follow.{restsOf}
-use Rattle.fault.specs.Latches.{supplyOf}
+use Rattle.fault.specs.Latches.{supplyOf, fieldOf}
 use Rattle.drive.specs.Shown.{onOf}
-use Rattle.fault.specs.Latches.{fieldOf}
 use Rattle.ways.specs.Ways.{raises, lowers}
 use Rattle.showing.specs.declared.Shown.{Shown}
 use Rattle.showing.specs.declared.Signals.{Signals}
+
+-- how many outputs there are
+abbrev pub fieldCount : ℕ
+fieldCount = 28
 
 -- a flag as an output
 abbrev pub bitOf : Bool → ℕ

@@ -6,6 +6,7 @@ use slots::I_SET3;
 use slots::MODULE;
 use slots::ORGAN_LIMITS;
 use slots::SLOTS;
+ghost use Rattle.slots.specs.Slots.{slots};
 ghost use Prim.Native.Nat.{_<_};
 
 // A sheet that is taken.
@@ -165,7 +166,7 @@ pub(crate) fn print_lengths() {
 
 // What the answer to the sheet with one slot set adds to the checksum.
 fn weight(base: [u32; SLOTS], i: usize, x: u32) -> u64
-    requires { ⌜ i < 63 ⌝ }
+    requires { ⌜ i < slots ⌝ }
     ensures { λ r. ⌜ r < 1099511627776 ⌝ }
 {
     let mut list = base;
@@ -178,7 +179,7 @@ fn weight(base: [u32; SLOTS], i: usize, x: u32) -> u64
 
 // The checksum with each number tried at one slot.
 fn add_slot(sum: u64, base: [u32; SLOTS], i: usize) -> u64
-    requires { ⌜ (sum < 1000003) × (i < 63) ⌝ }
+    requires { ⌜ (sum < 1000003) × (i < slots) ⌝ }
     ensures { λ r. ⌜ r < 1000003 ⌝ }
 {
     let mut total = sum;

@@ -4,16 +4,17 @@ use Prim.Native.Nat.{_≤_, _-_}
 use mathlib.Core.Path.{_≡_, refl}
 use lib.ListN.{replicate}
 use borrow.Author.Needs.{needs}
+use Rattle.slots.specs.Slots.{slots}
 use Rattle.common.proofs.Done.{done}
 use Rattle.sheet.proofs.Copies.{copiedTo, copy-on, copy-all}
 use Rattle.sheet.proofs.copied.Statement.{statement}
 use Rattle.sheet.proofs.copied.Tie as tie
 
 abbrev Inv-loop : tie.InvT-loop
-Inv-loop list copy₀ i₀ copy i = (i ≤ 63) × (copy ≡ copiedTo i (replicate 63 0) list)
+Inv-loop list copy₀ i₀ copy i = (i ≤ slots) × (copy ≡ copiedTo i (replicate slots 0) list)
 
 abbrev μ-loop : tie.MeasureT-loop
-μ-loop list copy₀ i₀ copy i = 63 - i
+μ-loop list copy₀ i₀ copy i = slots - i
 
 loop-holds : tie.Need-loop-holds Inv-loop μ-loop
 unfolding done

@@ -5,6 +5,7 @@ use Prim.Native.Nat.{_≤_, _-_}
 use mathlib.Core.Path.{refl}
 use borrow.Author.Needs.{needs}
 use borrow.Author.Tests.{not-true, not-false}
+use Rattle.slots.specs.Slots.{slots}
 use Rattle.common.specs.Choice.{choose}
 use Rattle.sheet.specs.Table.{rowOf, rowIn, lowColumn, highColumn, stepColumn}
 use Rattle.sheet.proofs.Tables.{factor-le, Columns, columns, step-kind}
@@ -14,10 +15,10 @@ use Rattle.sheet.proofs.first_out_of_range.Tie as tie
 
 abbrev Inv-loop : tie.InvT-loop
 Inv-loop s k lows highs steps i₀ i =
-    (i ≤ 63) × Columns s lows highs steps × From s i
+    (i ≤ slots) × Columns s lows highs steps × From s i
 
 abbrev μ-loop : tie.MeasureT-loop
-μ-loop s k lows highs steps i₀ i = 63 - i
+μ-loop s k lows highs steps i₀ i = slots - i
 
 module-factor-requires : tie.Need-module-factor-requires Inv-loop μ-loop
 module-factor-requires c κs = search needs

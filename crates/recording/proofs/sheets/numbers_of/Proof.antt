@@ -2,15 +2,16 @@
 -- Assumes nothing.
 use borrow.Author.Needs.{needs}
 use Prim.Native.Nat.{_≤_, _-_}
+use Rattle.slots.specs.Slots.{slots}
 use Rattle.recording.proofs.Starts.{Upto, none-read, one-read, all-read}
 use Rattle.recording.proofs.sheets.numbers_of.Statement.{statement}
 use Rattle.recording.proofs.sheets.numbers_of.Tie as tie
 
 abbrev Inv-loop : tie.InvT-loop
-Inv-loop bytes list₀ i₀ list i = (i ≤ 63) × Upto bytes i list
+Inv-loop bytes list₀ i₀ list i = (i ≤ slots) × Upto bytes i list
 
 abbrev μ-loop : tie.MeasureT-loop
-μ-loop bytes list₀ i₀ list i = 63 - i
+μ-loop bytes list₀ i₀ list i = slots - i
 
 loop-holds : tie.Need-loop-holds Inv-loop μ-loop
 loop-holds c = search (needs, none-read)

@@ -4,14 +4,15 @@ use Prim.Native.Nat.{_≤_, _-_}
 use mathlib.Core.Path.{_≡_}
 use lib.ListN.{length}
 use borrow.Author.Needs.{needs}
+use Rattle.slots.specs.Slots.{slots}
 use Rattle.worked.proofs.sheets.longer.Statement.{statement}
 use Rattle.worked.proofs.sheets.longer.Tie as tie
 
 abbrev Inv-loop : tie.InvT-loop
-Inv-loop base list₀ i₀ list i = (i ≤ 63) × (length list ≡ 64)
+Inv-loop base list₀ i₀ list i = (i ≤ slots) × (length list ≡ 64)
 
 abbrev μ-loop : tie.MeasureT-loop
-μ-loop base list₀ i₀ list i = 63 - i
+μ-loop base list₀ i₀ list i = slots - i
 
 loop-holds : tie.Need-loop-holds Inv-loop μ-loop
 loop-holds c = search needs

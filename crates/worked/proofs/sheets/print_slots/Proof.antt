@@ -2,14 +2,15 @@
 -- Assumes nothing.
 use Prim.Native.Nat.{_≤_, _<_, _-_}
 use borrow.Author.Needs.{needs}
+use Rattle.slots.specs.Slots.{slots}
 use Rattle.worked.proofs.sheets.print_slots.Statement.{statement}
 use Rattle.worked.proofs.sheets.print_slots.Tie as tie
 
 abbrev Inv-loop : tie.InvT-loop
-Inv-loop word base sum₀ i₀ t5 sum i = (i ≤ 63) × (sum < 1000003)
+Inv-loop word base sum₀ i₀ t5 sum i = (i ≤ slots) × (sum < 1000003)
 
 abbrev μ-loop : tie.MeasureT-loop
-μ-loop word base sum₀ i₀ t5 sum i = 63 - i
+μ-loop word base sum₀ i₀ t5 sum i = slots - i
 
 loop-holds : tie.Need-loop-holds Inv-loop μ-loop
 loop-holds c = search needs
