@@ -17,12 +17,9 @@ commonOf c fault =
 abbrev pub reversedOf : List ℕ → Bool
 reversedOf s = eqb (slot s tapSource) 4
 
--- "with slot 15, raise at tap N_R and lower at N_L, the other way round if slot 5 is 4"
-unfoldable pub raiseEndOf : List ℕ → ℕ → Bool
-raiseEndOf s tap = eqb (slot s endTapBlock) 1 && (not (reversedOf s) && eqb tap (slot s nR) || reversedOf s && eqb tap (slot s nL))
-
-unfoldable pub lowerEndOf : List ℕ → ℕ → Bool
-lowerEndOf s tap = eqb (slot s endTapBlock) 1 && (not (reversedOf s) && eqb tap (slot s nL) || reversedOf s && eqb tap (slot s nR))
+-- "with slot 15, raise at tap N_R and lower at N_L, the other way round if slot 5 is 4": at the end, or at the other
+unfoldable pub endOf : List ℕ → ℕ → ℕ → ℕ → Bool
+endOf s tap end other = eqb (slot s endTapBlock) 1 && (not (reversedOf s) && eqb tap end || reversedOf s && eqb tap other)
 
 -- the trip of the organ at a place, 0 for organ 6
 abbrev pub tripOf : List Bool → ℕ → Bool
@@ -53,10 +50,10 @@ manualOf s c f = commonOf c (f .fault) || eqb (slot s organsBlockManual) 1 && an
 
 -- "raise: 6, 10; lower: 7, 11", each with common
 abbrev pub raiseOf : List ℕ → Contacts → Found → Bool
-raiseOf s c f = commonOf c (f .fault) || c .«end_up» || c .«raise_block» || raiseEndOf s (f .tap)
+raiseOf s c f = commonOf c (f .fault) || c .«end_up» || c .«raise_block» || endOf s (f .tap) (slot s nR) (slot s nL)
 
 abbrev pub lowerOf : List ℕ → Contacts → Found → Bool
-lowerOf s c f = commonOf c (f .fault) || c .«end_down» || c .«lower_block» || lowerEndOf s (f .tap)
+lowerOf s c f = commonOf c (f .fault) || c .«end_down» || c .«lower_block» || endOf s (f .tap) (slot s nL) (slot s nR)
 
 unfoldable pub blocksOf : List ℕ → Contacts → Found → Blocks
 blocksOf s c f = record { automatic = automaticOf s c f; manual = manualOf s c f; raise = raiseOf s c f; lower = lowerOf s c f }

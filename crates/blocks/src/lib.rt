@@ -1,6 +1,6 @@
 // Rule 8: what each tick blocks.
 ghost use mathlib.Core.Path.{_≡_};
-ghost use Rattle.blocks.specs.Blocked.{commonOf, raiseEndOf, lowerEndOf, organsAutomaticOf, anyTripOf, tapLostOf, blocksOf};
+ghost use Rattle.blocks.specs.Blocked.{commonOf, endOf, organsAutomaticOf, anyTripOf, tapLostOf, blocksOf};
 use input::Contacts;
 use slots::CURRENT_ORGANS;
 use slots::END_TAP_BLOCK;
@@ -41,21 +41,14 @@ fn common_block(c: Contacts, fault: bool) -> bool
         | fault
 }
 
-// The end tap that a raise runs into: N_R, or N_L where the taps are counted reversed.
-fn at_raise_end(s: &[u32; SLOTS], tap: u32) -> bool
-    ensures { λ r. ⌜ r ≡ raiseEndOf (now (s .entry)) tap ⌝ }
+// Whether the tap is the end tap that a direction runs into, and blocked there: `end`, or `other` where the taps are counted
+// reversed.
+fn at_end(s: &[u32; SLOTS], tap: u32, end: u32, other: u32) -> bool
+    ensures { λ r. ⌜ r ≡ endOf (now (s .entry)) tap end other ⌝ }
 {
     let reversed = s[TAP_SOURCE] == 4;
     let block = s[END_TAP_BLOCK] == 1;
-    block & ((!reversed & (tap == s[N_R])) | (reversed & (tap == s[N_L])))
-}
-
-fn at_lower_end(s: &[u32; SLOTS], tap: u32) -> bool
-    ensures { λ r. ⌜ r ≡ lowerEndOf (now (s .entry)) tap ⌝ }
-{
-    let reversed = s[TAP_SOURCE] == 4;
-    let block = s[END_TAP_BLOCK] == 1;
-    block & ((!reversed & (tap == s[N_L])) | (reversed & (tap == s[N_R])))
+    block & ((!reversed & (tap == end)) | (reversed & (tap == other)))
 }
 
 // The trips that block automatic commands.
@@ -89,8 +82,8 @@ pub fn judge_blocks(s: &[u32; SLOTS], c: Contacts, f: Found) -> Blocks
     let by_organs = organs_block_automatic(s, t);
     let no_tap = tap_lost(s, f.tap);
     let tripped = any_trip(t);
-    let raise_end = at_raise_end(s, f.tap);
-    let lower_end = at_lower_end(s, f.tap);
+    let raise_end = at_end(s, f.tap, s[N_R], s[N_L]);
+    let lower_end = at_end(s, f.tap, s[N_L], s[N_R]);
     let manual_too = s[ORGANS_BLOCK_MANUAL] == 1;
     Blocks {
         automatic: common | !f.section | f.u_missing | by_organs | no_tap,

@@ -1,3 +1,4 @@
 pub mod Table
+pub mod Columns
 pub mod Sheet
 pub mod Settings

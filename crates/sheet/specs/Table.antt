@@ -1,12 +1,11 @@
 -- The paper's table of the 63 ranges, row by row, and the numbers that it takes.
-use Prim.Native.Nat.{ℕ, zero, suc, _+_, _-_, _*_, _%_, _≤_}
+use Prim.Native.Nat.{ℕ, _+_, _-_, _*_, _%_, _≤_}
 use mathlib.Core.Path.{_≡_}
 use mathlib.Core.Bool.{Bool, true, false, _&&_}
 use mathlib.Core.List.{List, [], _∷_}
 use lib.Dec.{leb, eqb}
-use lib.ListN.{getD, set}
 use Rattle.common.specs.Choice.{choose}
-use Rattle.slots.specs.Slots.{slot, slots, moduleKind, iSet1, iSet2, iSet3}
+use Rattle.slots.specs.Slots.{slot, moduleKind}
 
 -- a row: its slots, first to last, their low, high and step, and whether low and high are times k
 pub record Row : Type 0 where
@@ -91,24 +90,6 @@ rowIn (r ∷ rs) i = choose (leb (r .first) i && leb i (r .last)) r (rowIn rs i)
 
 unfoldable pub rowOf : ℕ → Row
 rowOf i = rowIn rows i
-
--- a part of the row of each of the n slots from i, and of all 63
-abbrev pub columnFrom : (Row → ℕ) → ℕ → ℕ → List ℕ
-columnFrom part i zero = []
-columnFrom part i (suc n) = part (rowOf i) ∷ columnFrom part (suc i) n
-
-unfoldable pub lowColumn : List ℕ
-lowColumn = columnFrom (λ r. r .low) 0 slots
-
-unfoldable pub highColumn : List ℕ
-highColumn = columnFrom (λ r. r .high) 0 slots
-
-unfoldable pub stepColumn : List ℕ
-stepColumn = columnFrom (λ r. r .step) 0 slots
-
--- a column with its current rows, 25 to 27, times k
-unfoldable pub timesK : ℕ → List ℕ → List ℕ
-timesK k l = set (set (set l iSet1 (getD l iSet1 0 * k)) iSet2 (getD l iSet2 0 * k)) iSet3 (getD l iSet3 0 * k)
 
 -- k: 5 if slot 1 is 1, the 5 A module, else 1
 unfoldable pub moduleFactor : List ℕ → ℕ

@@ -1,4 +1,4 @@
-use Rattle.blocks.specs.Blocked.{blocksOf}
+use Rattle.blocks.proofs.Laws.{blocks-made}
 use borrow.Author.Needs.{needs}
 use Rattle.blocks.proofs.judge_blocks.Statement.{statement}
 use Rattle.blocks.proofs.judge_blocks.Tie as tie
@@ -15,18 +15,29 @@ tap-lost-requires c κs = search needs
 any-trip-requires : tie.Need-any-trip-requires
 any-trip-requires c κs = search needs
 
-at-raise-end-requires : tie.Need-at-raise-end-requires
-at-raise-end-requires c κs = search needs
+element-copy-out-at-end : tie.Need-element-copy-out-at-end
+element-copy-out-at-end c = search needs
 
-at-lower-end-requires : tie.Need-at-lower-end-requires
-at-lower-end-requires c κs = search needs
+element-copy-out-at-end-2 : tie.Need-element-copy-out-at-end-2
+element-copy-out-at-end-2 c = search needs
+
+at-end-requires : tie.Need-at-end-requires
+at-end-requires c κs = search needs
+
+element-copy-out-at-end-3 : tie.Need-element-copy-out-at-end-3
+element-copy-out-at-end-3 c = search needs
+
+element-copy-out-at-end-4 : tie.Need-element-copy-out-at-end-4
+element-copy-out-at-end-4 c = search needs
+
+at-end-requires-2 : tie.Need-at-end-requires-2
+at-end-requires-2 c κs = search needs
 
 element-copy-out-manual-too : tie.Need-element-copy-out-manual-too
 element-copy-out-manual-too c = search needs
 
 returns : tie.Need-returns
-unfolding blocksOf
-returns c = cc
+returns c = search (needs, blocks-made)
 
 pub judge-blocks-spec : {M : Type 1} → statement M
 judge-blocks-spec =
@@ -36,7 +47,11 @@ judge-blocks-spec =
     organs-block-automatic-requires
     tap-lost-requires
     any-trip-requires
-    at-raise-end-requires
-    at-lower-end-requires
+    element-copy-out-at-end
+    element-copy-out-at-end-2
+    at-end-requires
+    element-copy-out-at-end-3
+    element-copy-out-at-end-4
+    at-end-requires-2
     element-copy-out-manual-too
     returns)

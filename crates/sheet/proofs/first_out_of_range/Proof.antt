@@ -7,7 +7,8 @@ use borrow.Author.Needs.{needs}
 use borrow.Author.Tests.{not-true, not-false}
 use Rattle.slots.specs.Slots.{slots}
 use Rattle.common.specs.Choice.{choose}
-use Rattle.sheet.specs.Table.{rowOf, rowIn, lowColumn, highColumn, stepColumn}
+use Rattle.sheet.specs.Table.{rowOf, rowIn}
+use Rattle.sheet.specs.Columns.{lowColumn, highColumn, stepColumn}
 use Rattle.sheet.proofs.Tables.{factor-le, Columns, columns, step-kind}
 use Rattle.sheet.proofs.First.{From, from-start, first-on, first-here, first-past}
 use Rattle.sheet.proofs.first_out_of_range.Statement.{statement}

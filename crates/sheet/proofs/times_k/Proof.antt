@@ -1,7 +1,7 @@
 -- `sheet::times_k` meets its contract.
 -- Assumes nothing.
 use borrow.Author.Needs.{needs}
-use Rattle.sheet.specs.Table.{timesK}
+use Rattle.sheet.specs.Columns.{timesK}
 use Rattle.sheet.proofs.Tables.{times-fits}
 use Rattle.sheet.proofs.times_k.Statement.{statement}
 use Rattle.sheet.proofs.times_k.Tie as tie

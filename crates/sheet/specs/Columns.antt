@@ -1,0 +1,24 @@
+-- The columns that the code holds the table in: what its own functions say to each other, and no promise to a caller.
+use Prim.Native.Nat.{ℕ, zero, suc, _*_}
+use mathlib.Core.List.{List, [], _∷_}
+use lib.ListN.{getD, set}
+use Rattle.slots.specs.Slots.{slots, iSet1, iSet2, iSet3}
+use Rattle.sheet.specs.Table.{Row, rowOf}
+
+-- a part of the row of each of the n slots from i, and of all
+abbrev pub columnFrom : (Row → ℕ) → ℕ → ℕ → List ℕ
+columnFrom part i zero = []
+columnFrom part i (suc n) = part (rowOf i) ∷ columnFrom part (suc i) n
+
+unfoldable pub lowColumn : List ℕ
+lowColumn = columnFrom (λ r. r .low) 0 slots
+
+unfoldable pub highColumn : List ℕ
+highColumn = columnFrom (λ r. r .high) 0 slots
+
+unfoldable pub stepColumn : List ℕ
+stepColumn = columnFrom (λ r. r .step) 0 slots
+
+-- a column with its current rows, 25 to 27, times k
+unfoldable pub timesK : ℕ → List ℕ → List ℕ
+timesK k l = set (set (set l iSet1 (getD l iSet1 0 * k)) iSet2 (getD l iSet2 0 * k)) iSet3 (getD l iSet3 0 * k)
