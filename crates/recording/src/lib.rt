@@ -1,4 +1,4 @@
-// The files of the bench program: a sheet and a tick from their bytes, and a line of numbers as text.
+// The files of `replay`: a sheet and a tick from their bytes, and a line of numbers as text.
 pub mod lines;
 mod numbers;
 pub mod sheets;

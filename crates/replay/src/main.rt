@@ -1,4 +1,4 @@
-// `replay SHEET RECORDING`, the bench program: the answer to the sheet, and then a line of outputs for each recorded tick.
+// `replay SHEET RECORDING`: the answer to the sheet, and then a line of outputs for each recorded tick.
 mod failing;
 mod reading;
 mod running;

@@ -1,0 +1,39 @@
+-- What the three functions that a host calls answer. Definitions only.
+use mathlib.Core.Bool.{Bool, _&&_}
+use lib.ListN.{replicate}
+use Rattle.showing.specs.Showing.{fieldCount}
+use Rattle.common.specs.Choice.{choose}
+use Rattle.record.specs.declared.Regulator.{Regulator}
+use Rattle.record.specs.Limits.{withinOf}
+use Rattle.record.specs.Starting.{Start}
+use Rattle.regulator.specs.declared.Ticked.{Ticked}
+use Rattle.regulator.specs.Ticks.{tickOf}
+use Rattle.image.specs.declared.Image.{Image}
+use Rattle.image.specs.declared.bringing.Brought.{Brought}
+use Rattle.image.specs.Images.{imageOf, recordOf}
+use Rattle.image.specs.Bringing.{inputOf}
+use Rattle.boundary.specs.declared.Started.{Started}
+use Rattle.boundary.specs.declared.ticking.ImageTicked.{ImageTicked}
+
+-- the paper's number and slot, with the image of the record
+unfoldable pub startedImage : Start → Started
+startedImage s = record { number = s .number; slot = s .slot; image = imageOf (s .state) }
+
+-- a tick's reply, with the image of the next record
+unfoldable pub tickedImage : Ticked → ImageTicked
+tickedImage t = record { refusal = t .reply .refusal; outputs = record { fields = t .reply .outputs }; next = imageOf (t .next) }
+
+unfoldable pub advancedOf : Regulator → Brought → ImageTicked
+advancedOf r b = tickedImage (tickOf r (inputOf b))
+
+-- 4, outputs all 0, the image left as it was
+unfoldable pub refusedImage : Image → ImageTicked
+refusedImage m = record { refusal = 4; outputs = record { fields = replicate fieldCount 0 }; next = m }
+
+-- the image is a record within its limits
+unfoldable pub isAccepted : Image → Bool
+isAccepted m = recordOf m .taken && withinOf (recordOf m .state)
+
+-- the tick of the image's record; refused where there is none
+unfoldable pub imageTickOf : Image → Brought → ImageTicked
+imageTickOf m b = choose (recordOf m .taken) (advancedOf (recordOf m .state) b) (refusedImage m)
