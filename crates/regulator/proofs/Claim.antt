@@ -8,7 +8,8 @@ use Rattle.record.specs.declared.Regulator.{Regulator}
 use Rattle.record.specs.Limits.{withinOf}
 use Rattle.regulator.specs.declared.Ticked.{Ticked}
 use Rattle.regulator.specs.Ticks.{tickOf}
-use Rattle.regulator.specs.Lists.{ticksFrom, output, modeField, blockField, Begins, Kept, listFrom}
+use Rattle.claim.specs.Claim.{output, modeField, blockField, Begins, Kept}
+use Rattle.regulator.specs.Lists.{ticksFrom, listFrom, opening}
 use Rattle.regulator.proofs.Next.{tick-lasting}
 use Rattle.regulator.proofs.Steps.{Linked, never-both}
 use Rattle.regulator.proofs.Waits.{begun-free}
@@ -16,16 +17,16 @@ use Rattle.regulator.proofs.Rows.{all-ticks, refused-of, latest-of, exa
 use Rattle.regulator.proofs.Serve.{again-of}
 
 -- every list of ticks on any record keeps demand 3
-pub kept : (r : Regulator) (is : List Input) → Kept r (ticksFrom (restsOf (r .drive)) r is)
+pub kept : (r : Regulator) (is : List Input) → Kept (opening r) (ticksFrom (restsOf (r .drive)) r is)
 kept r is =
     let k : Linked (restsOf (r .drive)) r = λ _. refl in
     record {
       refused = refused-of (withinOf r) (restsOf (r .drive)) r is refl;
       neverBoth =
-          all-ticks (λ t. output 0 (t .gave) ≡ 1 → output 1 (t .gave) ≡ 1 → ⊥) (λ rest q i _. never-both q i) (restsOf (r .drive)) r is k;
+          all-ticks (λ t. output 0 t ≡ 1 → output 1 t ≡ 1 → ⊥) (λ rest q i _. never-both q i) (restsOf (r .drive)) r is k;
       unblocked =
           λ d.
-          all-ticks (λ t. Begins d t → (output (modeField (t .brought)) (t .gave) ≡ 0) × (output (blockField d) (t .gave) ≡ 0))
+          all-ticks (λ t. Begins d t → (output (modeField (t .contacts)) t ≡ 0) × (output (blockField d) t ≡ 0))
           (λ rest q i l b. begun-free d rest q i l b) (restsOf (r .drive)) r is k;
       latest = λ d. latest-of d (restsOf (r .drive)) r is k;
       exactly = λ d n. exactly-of d (restsOf (r .drive)) r is k n;
@@ -33,10 +34,10 @@ kept r is =
     }
 
 -- the list that a call opens, once the call gave what `tickOf` says
-pub kept-from : (r : Regulator) (i : Input) (t : Ticked) → t ≡ tickOf r i → (later : List Input) → Kept r (listFrom r i t later)
-kept-from r i t e later = subst (λ (u : Ticked). Kept r (listFrom r i u later)) (sym e) (kept r (i ∷ later))
+pub kept-from : (r : Regulator) (i : Input) (t : Ticked) → t ≡ tickOf r i → (later : List Input) → Kept (opening r) (listFrom r i t later)
+kept-from r i t e later = subst (λ (u : Ticked). Kept (opening r) (listFrom r i u later)) (sym e) (kept r (i ∷ later))
 
 -- all that a call promises, from the first
 pub promised : (r : Regulator) (i : Input) {t : Ticked} → t ≡ tickOf r i
-    → (t ≡ tickOf r i) × ((withinOf (t .next) ≡ withinOf r) × ((later : List Input) → Kept r (listFrom r i t later)))
+    → (t ≡ tickOf r i) × ((withinOf (t .next) ≡ withinOf r) × ((later : List Input) → Kept (opening r) (listFrom r i t later)))
 promised r i {t} e = (e, (ap (λ (u : Ticked). withinOf (u .next)) e ∙ tick-lasting r i, kept-from r i t e))

@@ -16,7 +16,7 @@ use Rattle.record.specs.declared.Regulator.{Regulator}
 use Rattle.acting.specs.Commanding.{askOf, situationOf}
 use Rattle.acting.specs.Supervising.{contactOf}
 use Rattle.regulator.specs.declared.Ticked.{Ticked}
-use Rattle.regulator.specs.Lists.{Lasting, closed}
+use Rattle.claim.specs.Claim.{Lasting, closed}
 use Rattle.regulator.proofs.Shown.{supervisedAt, situationAt, live-drive}
 use Rattle.regulator.proofs.Steps.{tickAt, nextAt, contactAt, followed-is, no-fault-before, blocks-not-local, live-of}
 

@@ -12,9 +12,10 @@ use Rattle.input.specs.declared.Input.{Input}
 use Rattle.record.specs.declared.Regulator.{Regulator}
 use Rattle.record.specs.Limits.{withinOf}
 use Rattle.common.specs.Choice.{choose}
-use Rattle.regulator.specs.Lists.{Tick, ticksFrom, All, Some, Begins, Lasting, Waiting, BeganAtZero, InForce, delayIn, longest, closed}
+use Rattle.claim.specs.Claim.{Tick, All, Some, Begins, Lasting, Waiting, BeganAtZero, InForce, longest, closed}
+use Rattle.regulator.specs.Lists.{ticksFrom, delayIn, opening}
 use Rattle.regulator.proofs.Steps.{tickAt, nextAt, restAt, waitTo, Linked, accepted-is, accepted-within, settings-kept, within-kept, linked-kept}
-use Rattle.regulator.proofs.Waits.{begun-moves, force-least, force-most, wait-step, wait-or-zero, no-wait-is}
+use Rattle.regulator.proofs.Waits.{begun-moves, force-is, force-least, force-most, wait-step, wait-or-zero, no-wait-is}
 
 -- Lists of ticks.
 abbrev pub Open : Tick → Type 0
@@ -101,13 +102,13 @@ within-after r (i ∷ is) = within-after (nextAt r i) is ∙ within-kept r i
 
 zero-after :
     (d : Direction) (r₀ : Regulator) (rest : Bool) (r : Regulator) (i : Input) (is : List Input) → Linked rest r → withinOf r ≡ true →
-    BeganAtZero d r₀ (ticksFrom rest r (i ∷ is)) → waitTo d (recordAfter r (i ∷ is)) ≡ 0
+    BeganAtZero d (opening r₀) (ticksFrom rest r (i ∷ is)) → waitTo d (recordAfter r (i ∷ is)) ≡ 0
 zero-after d r₀ rest r i [] k h z = ⊎-elim (λ w. absurd (z w)) (λ e. e) (wait-or-zero d rest r i k h)
 zero-after d r₀ rest r i (j ∷ is) k h z =
     zero-after d r₀ (restAt r i) (nextAt r i) j is (linked-step rest r i) (within-kept r i ∙ h) z
 
 pub began : (d : Direction) (rest : Bool) (r : Regulator) (is : List Input) → Linked rest r → withinOf r ≡ true →
-    BeganAtZero d r (ticksFrom rest r is) → waitTo d (recordAfter r is) ≡ 0
+    BeganAtZero d (opening r) (ticksFrom rest r is) → waitTo d (recordAfter r is) ≡ 0
 began d rest r [] k h z = no-wait-is d r z
 began d rest r (i ∷ is) k h z = zero-after d r rest r i is k h z
 
@@ -150,7 +151,7 @@ exact d delay rest r (j ∷ front) i k p a w f e =
     (λ n.
     let v = n .early in
     let x = n .more in
-    let y = f .0 in
+    let y = sym (force-is d rest r j) ∙ f .0 in
     let g = exact d delay (restAt r j) (nextAt r j) front i (linked-step rest r j) (omega arith) (a .1) w (f .1) e in
     (λ b. let z = g .0 b in omega arith, λ q. g .1 (omega arith)))
     (wait-step d rest r j k (a .0))
@@ -172,7 +173,7 @@ first-within :
 first-within d rest r [] p a = absurd (omega arith)
 first-within d rest r (i ∷ is) p a = accepted-within r i (a .0 .lasting .accepted)
 
-pub refused-of : (v : Bool) (rest : Bool) (r : Regulator) (is : List Input) → withinOf r ≡ v → All (λ t. t .gave .reply .refusal ≡ choose v 0 4) (ticksFrom rest r is)
+pub refused-of : (v : Bool) (rest : Bool) (r : Regulator) (is : List Input) → withinOf r ≡ v → All (λ t. t .refusal ≡ choose v 0 4) (ticksFrom rest r is)
 refused-of v rest r [] h = tt
 refused-of v rest r (i ∷ is) h = (accepted-is r i ∙ ap (λ (b : Bool). choose b 0 4) h, refused-of v (restAt r i) (nextAt r i) is (within-kept r i ∙ h))
 
@@ -202,7 +203,7 @@ module _ (d : Direction) (rest : Bool) (r : Regulator) (is : List Input) (k : Li
 
   pub exactly-of :
       (delay : ℕ) (pre front : List Tick) (t : Tick) (post : List Tick) → ticksFrom rest r is ≡ pre ++ (front ++ (t ∷ post)) →
-      BeganAtZero d r pre → All (Waiting d) front → Waiting d t → All (InForce d delay) front → InForce d delay t →
+      BeganAtZero d (opening r) pre → All (Waiting d) front → Waiting d t → All (InForce d delay) front → InForce d delay t →
       Begins d t ↔ (length front + 1 ≡ delay)
   exactly-of delay pre front t post e z a w f g =
       let c = cut rest r is pre (front ++ (t ∷ post)) e in
@@ -215,10 +216,10 @@ module _ (d : Direction) (rest : Bool) (r : Regulator) (is : List Input) (k : Li
       let u = uncons rest₂ r₂ (b .back) t post (b .isBack) in
       let i = u .0 in
       let w₂ : Waiting d (tickAt rest₂ r₂ i) = subst (Waiting d) (u .2) w in
-      let g₂ : delayIn d r₂ i ≡ delay = subst (InForce d delay) (u .2) g in
+      let g₂ : delayIn d r₂ i ≡ delay = sym (force-is d rest₂ r₂ i) ∙ subst (InForce d delay) (u .2) g in
       let h : withinOf r ≡ true =
       sym (within-after r (c .front)) ∙ sym (within-after r₁ row) ∙ accepted-within r₂ i (w₂ .lasting .accepted) in
-      let n : waitTo d r₁ ≡ 0 = began d rest r (c .front) k h (subst (BeganAtZero d r) (c .isFront) z) in
+      let n : waitTo d r₁ ≡ 0 = began d rest r (c .front) k h (subst (BeganAtZero d (opening r)) (c .isFront) z) in
       let q : 20 ≤ delayIn d r₂ i = force-least d r₂ i (within-after r₁ row ∙ within-after r (c .front) ∙ h) in
       let m : length front ≡ length row = ap length (b .isFront) ∙ length-ticks rest₁ r₁ row in
       let x =

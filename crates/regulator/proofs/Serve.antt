@@ -18,7 +18,8 @@ use Rattle.drive.specs.Follow.{restsOf}
 use Rattle.input.specs.declared.Input.{Input}
 use Rattle.record.specs.declared.Regulator.{Regulator}
 use Rattle.record.specs.Limits.{withinOf}
-use Rattle.regulator.specs.Lists.{Tick, ticksFrom, output, commandField, All, Some, Begins, Lasting, longest, Serves, Command}
+use Rattle.claim.specs.Claim.{Tick, output, commandField, All, Some, Begins, Lasting, longest, Serves, Command}
+use Rattle.regulator.specs.Lists.{ticksFrom}
 use Rattle.regulator.proofs.Steps.{tickAt, nextAt, restAt, Linked, accepted-within, settings-kept, within-kept, linked-kept}
 use Rattle.regulator.proofs.Waits.{begun-asked, force-least, force-most}
 use Rattle.regulator.proofs.Moves.{asked-open, asked-closed, moving-closed, moving-open}
@@ -135,11 +136,11 @@ begins-decided side t =
     ⊎-elim
     (λ a.
     ⊎-elim
-    (λ b. ⊎-elim (λ c. inl (record { accepted = a; rest = b; on = c })) (λ n. inr (λ h. n (h .on))) (same-number (output (commandField side) (t .gave)) 1))
+    (λ b. ⊎-elim (λ c. inl (record { accepted = a; rest = b; on = c })) (λ n. inr (λ h. n (h .on))) (same-number (output (commandField side) t) 1))
     (λ n. inr (λ h. n (h .rest)))
     (same-bool (t .rest) true))
     (λ n. inr (λ h. n (h .accepted)))
-    (same-number (t .gave .reply .refusal) 0)
+    (same-number (t .refusal) 0)
 
 command-decided : (t : Tick) → Command t ⊎ (Command t → ⊥)
 command-decided t =

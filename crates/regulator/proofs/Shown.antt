@@ -5,6 +5,7 @@ use mathlib.Core.Bool.{Bool, true, false, not}
 use Prim.Native.Nat.{ℕ}
 use native.Mathlib.Omega.{arith}
 use lib.Dec.{eqb}
+use lib.ListN.{getD}
 use Rattle.slots.specs.Slots.{slot, t7}
 use Rattle.busbar.specs.declared.voltage.Level.{Level}
 use Rattle.busbar.specs.declared.voltage.Level.the-variants.{Missing, Low, InBand, High}
@@ -33,10 +34,14 @@ use Rattle.showing.specs.Showing as showing
 use Rattle.showing.specs.Showing.{isLow, isHigh, signalsOf, fieldsOf, outputsOf}
 use Rattle.regulator.specs.declared.Sensed.{Sensed}
 use Rattle.regulator.specs.declared.Ticked.{Ticked}
-use Rattle.regulator.specs.Lists.{output, commandField, blockField, sideField}
+use Rattle.claim.specs.Claim.{commandField, blockField, sideField}
 use Rattle.regulator.specs.Ticks.{sensedOf, supervisedIn, blockedIn, memoryOf, regulatedIn, actedOf, nextOf, endOf, ranOf}
 
 -- ---- the values of the rules on a tick
+
+-- output n
+abbrev pub given : ℕ → Ticked → ℕ
+given n t = getD (t .reply .outputs) n 0
 
 abbrev pub contactsAt : Input → Contacts
 contactsAt i = contactsOf (i .contacts)
@@ -87,46 +92,46 @@ module _ (r : Regulator) (i : Input) where
   unfolding ranOf endOf
   live-accepted = refl
 
-  pub live-on : (d : Direction) → output (commandField d) (liveAt r i) ≡ showing.bitOf (onTo d (driveAt r i) (slot (r .settings) t7))
+  pub live-on : (d : Direction) → given (commandField d) (liveAt r i) ≡ showing.bitOf (onTo d (driveAt r i) (slot (r .settings) t7))
   unfolding ranOf endOf actedOf regulatedIn regulatedOf decisionOf outputsOf fieldsOf signalsOf
   live-on Raise = refl
   live-on Lower = refl
 
-  pub live-moving : output 24 (liveAt r i) ≡ showing.bitOf (not (restsOf (driveAt r i)))
+  pub live-moving : given 24 (liveAt r i) ≡ showing.bitOf (not (restsOf (driveAt r i)))
   unfolding ranOf endOf actedOf regulatedIn regulatedOf decisionOf outputsOf fieldsOf signalsOf
   live-moving = refl
 
-  pub live-automatic : output 13 (liveAt r i) ≡ showing.bitOf (blocksAt r i .automatic)
+  pub live-automatic : given 13 (liveAt r i) ≡ showing.bitOf (blocksAt r i .automatic)
   unfolding ranOf endOf actedOf outputsOf fieldsOf
   live-automatic = refl
 
-  pub live-manual : output 14 (liveAt r i) ≡ showing.bitOf (blocksAt r i .manual)
+  pub live-manual : given 14 (liveAt r i) ≡ showing.bitOf (blocksAt r i .manual)
   unfolding ranOf endOf actedOf outputsOf fieldsOf
   live-manual = refl
 
-  pub live-opposed : (d : Direction) → output (blockField d) (liveAt r i) ≡ showing.bitOf (opposedOf (blocksAt r i) d)
+  pub live-opposed : (d : Direction) → given (blockField d) (liveAt r i) ≡ showing.bitOf (opposedOf (blocksAt r i) d)
   unfolding ranOf endOf actedOf outputsOf fieldsOf
   live-opposed Raise = refl
   live-opposed Lower = refl
 
-  pub live-level : (d : Direction) → output (sideField d) (liveAt r i) ≡ showing.bitOf (levelTo d (sensedAt r i .assessed .level))
+  pub live-level : (d : Direction) → given (sideField d) (liveAt r i) ≡ showing.bitOf (levelTo d (sensedAt r i .assessed .level))
   unfolding ranOf endOf outputsOf fieldsOf signalsOf
   live-level Raise = refl
   live-level Lower = refl
 
-  pub live-run-away : output 19 (liveAt r i) ≡ showing.bitOf (eqb (fieldOf (supervisedAt r i .latch .fault)) 19)
+  pub live-run-away : given 19 (liveAt r i) ≡ showing.bitOf (eqb (fieldOf (supervisedAt r i .latch .fault)) 19)
   unfolding ranOf endOf actedOf outputsOf fieldsOf signalsOf
   live-run-away = refl
 
-  pub live-not-started : output 20 (liveAt r i) ≡ showing.bitOf (eqb (fieldOf (supervisedAt r i .latch .fault)) 20)
+  pub live-not-started : given 20 (liveAt r i) ≡ showing.bitOf (eqb (fieldOf (supervisedAt r i .latch .fault)) 20)
   unfolding ranOf endOf actedOf outputsOf fieldsOf signalsOf
   live-not-started = refl
 
-  pub live-long : output 21 (liveAt r i) ≡ showing.bitOf (eqb (fieldOf (supervisedAt r i .latch .fault)) 21)
+  pub live-long : given 21 (liveAt r i) ≡ showing.bitOf (eqb (fieldOf (supervisedAt r i .latch .fault)) 21)
   unfolding ranOf endOf actedOf outputsOf fieldsOf signalsOf
   live-long = refl
 
-  pub live-fast : output 22 (liveAt r i) ≡ showing.bitOf (eqb (fieldOf (supervisedAt r i .latch .fault)) 22)
+  pub live-fast : given 22 (liveAt r i) ≡ showing.bitOf (eqb (fieldOf (supervisedAt r i .latch .fault)) 22)
   unfolding ranOf endOf actedOf outputsOf fieldsOf signalsOf
   live-fast = refl
 

@@ -28,20 +28,21 @@ use Rattle.showing.specs.Showing as showing
 use Rattle.acting.specs.Supervising.{contactOf, clearedOf, followedOf, supervisedOf}
 use Rattle.regulator.specs.declared.Ticked.{Ticked}
 use Rattle.regulator.specs.Ticks.{supervisedIn, blockedIn, isOut, outOf, refusedOf, tickOf}
-use Rattle.regulator.specs.Lists.{output, Tick, restAfter, blockField, sideField, Lasting}
+use Rattle.claim.specs.Claim.{Tick, restAfter, blockField, sideField, Lasting}
+use Rattle.regulator.specs.Lists.{seen}
 use Rattle.regulator.proofs.Next.{tick-lasting}
-use Rattle.regulator.proofs.Shown.{contactsAt, sensedAt, supervisedAt, blocksAt, driveAt, liveAt, live-drive, live-settings, live-accepted, live-on, live-moving, live-automatic, live-opposed, live-level, flag-on, flag-off, flag-rests, level-side}
+use Rattle.regulator.proofs.Shown.{given, contactsAt, sensedAt, supervisedAt, blocksAt, driveAt, liveAt, live-drive, live-settings, live-accepted, live-on, live-moving, live-automatic, live-opposed, live-level, flag-on, flag-off, flag-rests, level-side}
 
 -- ---- a tick of a list
 
 abbrev pub tickAt : Bool → Regulator → Input → Tick
-tickAt rest r i = record { rest = rest; got = r; brought = i; gave = tickOf r i }
+tickAt rest r i = seen rest r i (tickOf r i)
 
 abbrev pub nextAt : Regulator → Input → Regulator
 nextAt r i = tickOf r i .next
 
 abbrev pub restAt : Regulator → Input → Bool
-restAt r i = restAfter (tickOf r i)
+restAt r i = restAfter (tickOf r i .reply .outputs)
 
 -- the wait to a side
 abbrev pub waitTo : Direction → Regulator → ℕ
@@ -90,13 +91,13 @@ module _ (r : Regulator) (i : Input) where
   pub linked-kept : withinOf r ≡ true → restAt r i ≡ restsOf (nextAt r i .drive)
   unfolding outOf freshOf
   linked-kept w =
-      tick-cases (λ (t : Ticked). restAfter t ≡ restsOf (t .next .drive)) (λ h. absurd (true≢false (sym w ∙ h))) (λ h o. refl)
+      tick-cases (λ (t : Ticked). restAfter (t .reply .outputs) ≡ restsOf (t .next .drive)) (λ h. absurd (true≢false (sym w ∙ h))) (λ h o. refl)
       (λ h o. ap (λ (n : ℕ). eqb n 0) (live-moving r i) ∙ flag-rests (restsOf (driveAt r i)) ∙ ap restsOf (sym (live-drive r i)))
 
-  pub never-both : output 0 (tickOf r i) ≡ 1 → output 1 (tickOf r i) ≡ 1 → ⊥
+  pub never-both : given 0 (tickOf r i) ≡ 1 → given 1 (tickOf r i) ≡ 1 → ⊥
   unfolding refusedOf outOf
   never-both =
-      tick-cases (λ (t : Ticked). output 0 t ≡ 1 → output 1 t ≡ 1 → ⊥) (λ h p q. omega arith) (λ h o p q. omega arith)
+      tick-cases (λ (t : Ticked). given 0 t ≡ 1 → given 1 t ≡ 1 → ⊥) (λ h p q. omega arith) (λ h o p q. omega arith)
       (λ h o p q.
       one-way (onOf (driveAt r i) (slot (r .settings) t7)) (flag-on _ (sym (live-on r i Raise) ∙ p)) (flag-on _ (sym (live-on r i Lower) ∙ q)))
 
@@ -142,13 +143,13 @@ pub live-of : (d : Direction) (rest : Bool) (r : Regulator) (i : Input) → Last
 live-of d rest r i l =
     let w = accepted-within r i (l .accepted) in
     let e = live-is r i w (not-out r i (l .inService) (l .notOut)) in
-    let m : blocksAt r i .automatic ≡ false = flag-off _ (sym (live-automatic r i) ∙ sym (ap (output 13) e) ∙ l .modeFree) in
+    let m : blocksAt r i .automatic ≡ false = flag-off _ (sym (live-automatic r i) ∙ sym (ap (given 13) e) ∙ l .modeFree) in
     record {
       within = w;
       is = e;
       automatic = l .automatic;
-      side = level-side d _ (flag-on _ (sym (live-level r i d) ∙ sym (ap (output (sideField d)) e) ∙ l .deviates));
+      side = level-side d _ (flag-on _ (sym (live-level r i d) ∙ sym (ap (given (sideField d)) e) ∙ l .deviates));
       mode = m;
-      direction = flag-off _ (sym (live-opposed r i d) ∙ sym (ap (output (blockField d)) e) ∙ l .sideFree);
+      direction = flag-off _ (sym (live-opposed r i d) ∙ sym (ap (given (blockField d)) e) ∙ l .sideFree);
       fault = blocks-no-fault r i m;
     }

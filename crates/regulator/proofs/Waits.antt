@@ -42,9 +42,10 @@ use Rattle.showing.specs.Showing as showing
 use Rattle.acting.specs.Supervising.{contactOf}
 use Rattle.regulator.specs.declared.Ticked.{Ticked}
 use Rattle.regulator.specs.Ticks.{isOut, outOf, tickOf}
-use Rattle.regulator.specs.Lists.{output, commandField, blockField, sideField, modeField, Begins, Waiting, NoWait, delayIn, longest, closed}
+use Rattle.claim.specs.Claim.{commandField, blockField, sideField, modeField, delayTo, waitFor, Begins, Waiting, longest, closed}
+use Rattle.regulator.specs.Lists.{delayIn, heldFor, opening}
 use Rattle.regulator.proofs.Next.{pass}
-use Rattle.regulator.proofs.Shown.{contactsAt, supervisedAt, blocksAt, situationAt, decidedAt, liveAt, onTo, live-drive, live-wait, live-on, live-automatic, live-manual, live-opposed, live-level, live-run-away, live-not-started, live-long, live-fast, flag-on, no-field, side-level}
+use Rattle.regulator.proofs.Shown.{given, contactsAt, supervisedAt, blocksAt, situationAt, decidedAt, liveAt, onTo, live-drive, live-wait, live-on, live-automatic, live-manual, live-opposed, live-level, live-run-away, live-not-started, live-long, live-fast, flag-on, no-field, side-level}
 use Rattle.regulator.proofs.Steps.{tickAt, nextAt, restAt, waitTo, Linked, live-is, out-is, accepted-is, accepted-within, linked-kept, contactAt, followed-is, no-fault-before, blocks-no-fault, blocks-not-local, Live, live-of}
 
 -- ---- a command that begins
@@ -64,7 +65,7 @@ pub record Begun (d : Direction) (r : Regulator) (i : Input) : Type 0 where
   pub is : tickOf r i ≡ liveAt r i
   pub command : decidedAt r i .command ≡ To d
 
-nothing-out : (d : Direction) (r : Regulator) → output (commandField d) (outOf r) ≡ 0
+nothing-out : (d : Direction) (r : Regulator) → given (commandField d) (outOf r) ≡ 0
 unfolding outOf
 nothing-out Raise r = refl
 nothing-out Lower r = refl
@@ -74,7 +75,7 @@ module _ (d : Direction) (rest : Bool) (r : Regulator) (i : Input) (k : Linked r
   begun =
       let w = accepted-within r i (b .accepted) in
       ⊎-elim
-      (λ o. absurd (zero-one (sym (nothing-out d r) ∙ sym (ap (output (commandField d)) (out-is r i w o)) ∙ b .on)))
+      (λ o. absurd (zero-one (sym (nothing-out d r) ∙ sym (ap (given (commandField d)) (out-is r i w o)) ∙ b .on)))
       (λ o.
       let e = live-is r i w o in
       record {
@@ -82,7 +83,7 @@ module _ (d : Direction) (rest : Bool) (r : Regulator) (i : Input) (k : Linked r
         is = e;
         command =
             on-decided d r i (slot (r .settings) t7) (sym (k w) ∙ b .rest) (decidedAt r i .command)
-            (flag-on _ (sym (live-on r i d) ∙ sym (ap (output (commandField d)) e) ∙ b .on));
+            (flag-on _ (sym (live-on r i d) ∙ sym (ap (given (commandField d)) e) ∙ b .on));
       })
       (split (isOut r (contactsAt i)))
     where
@@ -97,20 +98,24 @@ module _ (d : Direction) (rest : Bool) (r : Regulator) (i : Input) (k : Linked r
   pub begun-moves : restAt r i ≡ false
   begun-moves = linked-kept r i (begun .within) ∙ ap restsOf begun-asked
 
-  mode-free : (m : Bool) → contactsAt i .automatic ≡ m → choose m (blocksAt r i .automatic) (blocksAt r i .manual) ≡ false → output (choose m 13 14) (liveAt r i) ≡ 0
+  mode-free : (m : Bool) → contactsAt i .automatic ≡ m → choose m (blocksAt r i .automatic) (blocksAt r i .manual) ≡ false → given (choose m 13 14) (liveAt r i) ≡ 0
   unfolding choose
   mode-free true e f = live-automatic r i ∙ ap showing.bitOf f
   mode-free false e f = live-manual r i ∙ ap showing.bitOf f
 
-  pub begun-free : (output (modeField i) (tickOf r i) ≡ 0) × (output (blockField d) (tickOf r i) ≡ 0)
+  pub begun-free : (given (modeField (i .contacts)) (tickOf r i) ≡ 0) × (given (blockField d) (tickOf r i) ≡ 0)
   unfolding situationOf
   begun-free =
       let s = decided-sound (r .settings) (situationAt r i) .begins d (begun .command) in (
-        ap (output (modeField i)) (begun .is) ∙ mode-free (contactsAt i .automatic) refl (s .mode),
-        ap (output (blockField d)) (begun .is) ∙ live-opposed r i d ∙ ap showing.bitOf (s .direction),
+        ap (given (modeField (i .contacts))) (begun .is) ∙ mode-free (contactsAt i .automatic) refl (s .mode),
+        ap (given (blockField d)) (begun .is) ∙ live-opposed r i d ∙ ap showing.bitOf (s .direction),
       )
 
 -- ---- the delay in force
+
+pub force-is : (d : Direction) (rest : Bool) (r : Regulator) (i : Input) → delayTo d (tickAt rest r i) ≡ delayIn d r i
+force-is Raise rest r i = refl
+force-is Lower rest r i = refl
 
 delay-most : (s : List ℕ) (d : Direction) (far : Bool) (w : Way) → delayOf s d far w ≤ longest s
 unfolding delayOf
@@ -130,15 +135,18 @@ force-least d r i h = delay-least (r .settings) (pass r h) d _ _
 
 -- ---- a waiting tick
 
--- the wait of a record to a side that holds none there
-waited-none : (d : Direction) (w : Wait) → ((n : ℕ) → w ≡ For d n → n ≡ 0) → waitedOf d w ≡ 0
-unfolding waitedOf ticksOf
-waited-none d Idle h = refl
-waited-none d (For e n) h =
-    chosen (λ k. k ≡ 0) (isTo d (To e)) n 0 (λ p. h n (ap (λ (f : Direction). For f n) (is-to-is d e p))) (λ p. refl)
+-- the wait that a record holds to a side, as a list's opening has it, is the one that rule 9 goes by
+held-is : (d : Direction) (w : Wait) → waitedOf d w ≡ heldFor d w
+unfolding waitedOf ticksOf choose
+held-is d Idle = refl
+held-is Raise (For Raise n) = refl
+held-is Raise (For Lower n) = refl
+held-is Lower (For Raise n) = refl
+held-is Lower (For Lower n) = refl
 
-pub no-wait-is : (d : Direction) (r : Regulator) → NoWait d r → waitTo d r ≡ 0
-no-wait-is d r h = waited-none d (r .wait) h
+pub no-wait-is : (d : Direction) (r : Regulator) → waitFor d (opening r) ≡ 0 → waitTo d r ≡ 0
+no-wait-is Raise r h = held-is Raise (r .wait) ∙ h
+no-wait-is Lower r h = held-is Lower (r .wait) ∙ h
 
 waited-self : (d : Direction) (n : ℕ) → waitedOf d (For d n) ≡ n
 unfolding waitedOf ticksOf
@@ -187,7 +195,7 @@ module _ (d : Direction) (rest : Bool) (r : Regulator) (i : Input) (k : Linked r
               accepted = w .lasting .accepted;
               rest = w .rest;
               on =
-                  ap (output (commandField d)) (l .is) ∙ live-on r i d
+                  ap (given (commandField d)) (l .is) ∙ live-on r i d
                   ∙ ap showing.bitOf (ap (λ (v : Way). onTo d (askOf (supervisedAt r i .drive) v) (slot (r .settings) t7)) c ∙ is-to-self d);
             };
         due = h;
@@ -244,13 +252,13 @@ module _ (d : Direction) (rest : Bool) (r : Regulator) (i : Input) (k : Linked r
               inService = in-service (r .settings) (pass r h) (or-left _ _ o);
               notOut = or-right (eqb (slot (r .settings) inService) 0) _ o;
               automatic = q .automatic;
-              deviates = ap (output (sideField d)) e ∙ live-level r i d ∙ ap showing.bitOf (side-level d _ (q .side));
-              modeFree = ap (output 13) e ∙ live-automatic r i ∙ ap showing.bitOf (q .mode);
-              sideFree = ap (output (blockField d)) e ∙ live-opposed r i d ∙ ap showing.bitOf (q .direction);
-              noRunAway = ap (output 19) e ∙ live-run-away r i ∙ z .0;
-              noNotStarted = ap (output 20) e ∙ live-not-started r i ∙ z .1;
-              noLong = ap (output 21) e ∙ live-long r i ∙ z .2;
-              noFast = ap (output 22) e ∙ live-fast r i ∙ z .3;
+              deviates = ap (given (sideField d)) e ∙ live-level r i d ∙ ap showing.bitOf (side-level d _ (q .side));
+              modeFree = ap (given 13) e ∙ live-automatic r i ∙ ap showing.bitOf (q .mode);
+              sideFree = ap (given (blockField d)) e ∙ live-opposed r i d ∙ ap showing.bitOf (q .direction);
+              noRunAway = ap (given 19) e ∙ live-run-away r i ∙ z .0;
+              noNotStarted = ap (given 20) e ∙ live-not-started r i ∙ z .1;
+              noLong = ap (given 21) e ∙ live-long r i ∙ z .2;
+              noFast = ap (given 22) e ∙ live-fast r i ∙ z .3;
             };
         rest = k h ∙ was;
         contact = rest-needs-open (contactAt r i) (r .drive) was (blocks-not-local r i (q .mode)) (b .1) (b .0) now;

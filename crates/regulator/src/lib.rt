@@ -2,7 +2,8 @@
 ghost use mathlib.Core.Path.{_≡_};
 ghost use mathlib.Core.List.{List};
 ghost use Rattle.record.specs.Limits.{withinOf};
-ghost use Rattle.regulator.specs.Lists.{listFrom, Kept};
+ghost use Rattle.claim.specs.Claim.{Kept};
+ghost use Rattle.regulator.specs.Lists.{listFrom, opening};
 ghost use Rattle.regulator.specs.Ticks.{sensedOf, memoryOf, actedOf, shownOf, nextOf, ranOf, outOf, refusedOf, tickOf};
 use acting::accounting::Accounted;
 use acting::commanding::Memory;
@@ -236,7 +237,7 @@ fn refused(r: Regulator) -> Ticked
 pub fn tick(r: Regulator, i: Input) -> Ticked
     ensures each { λ t. ⌜ t ≡ tickOf r i ⌝ }
     ensures lasting { λ t. ⌜ withinOf (t .next) ≡ withinOf r ⌝ }
-    ensures lists { λ t. ⌜ ((later : List Input) → Kept r (listFrom r i t later)) ⌝ }
+    ensures lists { λ t. ⌜ ((later : List Input) → Kept (opening r) (listFrom r i t later)) ⌝ }
 {
     if record::limits::within(r) {
         let c = input::decode_contacts(i.contacts);

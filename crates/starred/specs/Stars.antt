@@ -13,7 +13,8 @@ use Rattle.tap.specs.Stars as tap-stars
 use Rattle.tap.specs.declared.position.Position.{Position}
 use Rattle.organ.specs.Stars as organ-stars
 use Rattle.organ.specs.Runs as organ-runs
-use Rattle.regulator.specs.Lists.{Tick, ticksFrom, output}
+use Rattle.claim.specs.Claim.{Tick, output}
+use Rattle.regulator.specs.Lists.{ticksFrom}
 use Rattle.starred.specs.Scenes.{plainSheet, lowOpen}
 use Rattle.common.specs.Choice as common-choice
 use Rattle.common.specs.Places as common-places
@@ -80,7 +81,7 @@ expected (Star.raising d n) = Shown.raising (replicate (n - 1) 0 ++ (1 ∷ []))
 
 -- raise, output 0, on each of the ticks of a low voltage from the fresh record
 abbrev pub raises : ℕ → ℕ → List ℕ
-raises d n = map (λ (t : Tick). output 0 (t .gave)) (ticksFrom true (record-starting.freshOf (set plainSheet t1 d)) (replicate n lowOpen))
+raises d n = map (λ (t : Tick). output 0 t) (ticksFrom true (record-starting.freshOf (set plainSheet t1 d)) (replicate n lowOpen))
 
 abbrev pub found : Star → Shown
 found (Star.reading s) = Shown.reading (reading-stars.found s)
