@@ -1,1 +1,3 @@
-pub mod Tests
+pub mod Shut
+pub mod Ticks
+pub mod Worked

@@ -92,7 +92,7 @@ Accepted t = t .refusal ≡ 0
 -- *begins*: "an accepted tick that starts at rest begins a raise if its output 0 is 1, a lower if its output 1 is 1"
 pub record Begins (d : Direction) (t : Tick) : Type 0 where
   pub accepted : Accepted t
-  pub rest : t .rest ≡ true
+  pub fromRest : t .rest ≡ true
   pub on : output (commandField d) t ≡ 1
 
 abbrev pub Command : Tick → Type 0

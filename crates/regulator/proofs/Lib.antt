@@ -1,10 +1,11 @@
-pub mod Made
+pub mod Claim
 pub mod Lasting
+pub mod Made
+pub mod Moves
 pub mod Next
+pub mod Rows
+pub mod Serve
 pub mod Shown
 pub mod Steps
 pub mod Waits
-pub mod Moves
-pub mod Rows
-pub mod Serve
-pub mod Claim
+pub mod Worked

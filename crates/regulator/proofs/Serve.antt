@@ -136,8 +136,8 @@ begins-decided side t =
     ⊎-elim
     (λ a.
     ⊎-elim
-    (λ b. ⊎-elim (λ c. inl (record { accepted = a; rest = b; on = c })) (λ n. inr (λ h. n (h .on))) (same-number (output (commandField side) t) 1))
-    (λ n. inr (λ h. n (h .rest)))
+    (λ b. ⊎-elim (λ c. inl (record { accepted = a; fromRest = b; on = c })) (λ n. inr (λ h. n (h .on))) (same-number (output (commandField side) t) 1))
+    (λ n. inr (λ h. n (h .fromRest)))
     (same-bool (t .rest) true))
     (λ n. inr (λ h. n (h .accepted)))
     (same-number (t .refusal) 0)

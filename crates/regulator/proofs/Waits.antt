@@ -82,7 +82,7 @@ module _ (d : Direction) (rest : Bool) (r : Regulator) (i : Input) (k : Linked r
         within = w;
         is = e;
         command =
-            on-decided d r i (slot (r .settings) t7) (sym (k w) ∙ b .rest) (decidedAt r i .command)
+            on-decided d r i (slot (r .settings) t7) (sym (k w) ∙ b .fromRest) (decidedAt r i .command)
             (flag-on _ (sym (live-on r i d) ∙ sym (ap (given (commandField d)) e) ∙ b .on));
       })
       (split (isOut r (contactsAt i)))
@@ -193,7 +193,7 @@ module _ (d : Direction) (rest : Bool) (r : Regulator) (i : Input) (k : Linked r
         begins =
             record {
               accepted = w .lasting .accepted;
-              rest = w .rest;
+              fromRest = w .rest;
               on =
                   ap (given (commandField d)) (l .is) ∙ live-on r i d
                   ∙ ap showing.bitOf (ap (λ (v : Way). onTo d (askOf (supervisedAt r i .drive) v) (slot (r .settings) t7)) c ∙ is-to-self d);

@@ -1,5 +1,7 @@
 -- The rules of one tick (01, 'The rules, in order'). Definitions only.
+use Prim.Native.Nat.{ℕ}
 use mathlib.Core.Bool.{Bool, _||_}
+use mathlib.Core.List.{List}
 use lib.Dec.{eqb}
 use lib.ListN.{replicate}
 use Rattle.common.specs.Choice.{choose}
@@ -130,17 +132,21 @@ ranOf r i c = endOf r c (sensedOf r i c) (actedOf r c (sensedOf r i c))
 
 -- ---- rule 1, and the refusal
 
+-- "all outputs 0"
+abbrev pub allOff : List ℕ
+allOff = replicate fieldCount 0
+
 -- "slot 0 is 0 or bit 13 set"
 unfoldable pub isOut : Regulator → Contacts → Bool
 isOut r c = eqb (slot (r .settings) inService) 0 || c .out
 
 -- "the record becomes the fresh one, all outputs 0, tick over"
 unfoldable pub outOf : Regulator → Ticked
-outOf r = record { reply = record { refusal = 0; outputs = replicate fieldCount 0 }; next = freshOf (r .settings) }
+outOf r = record { reply = record { refusal = 0; outputs = allOff }; next = freshOf (r .settings) }
 
 -- "tick on a record outside its limits": 4, outputs all 0, the record left as it was
 unfoldable pub refusedOf : Regulator → Ticked
-refusedOf r = record { reply = record { refusal = 4; outputs = replicate fieldCount 0 }; next = r }
+refusedOf r = record { reply = record { refusal = 4; outputs = allOff }; next = r }
 
 -- the tick
 unfoldable pub tickOf : Regulator → Input → Ticked

@@ -22,6 +22,9 @@ use showing::Shown;
 use slots::IN_SERVICE;
 use slots::SLOTS;
 
+// All outputs 0.
+const ALL_OFF: [u32; FIELDS] = [0u32; FIELDS];
+
 // What a tick answers: 0, or the refusal 4 with outputs all 0.
 pub struct Reply {
     pub refusal: u32,
@@ -212,7 +215,7 @@ fn out_of_service(r: Regulator) -> Ticked
     Ticked {
         reply: Reply {
             refusal: 0,
-            outputs: [0u32; FIELDS],
+            outputs: ALL_OFF,
         },
         next: next,
     }
@@ -225,7 +228,7 @@ fn refused(r: Regulator) -> Ticked
     Ticked {
         reply: Reply {
             refusal: 4,
-            outputs: [0u32; FIELDS],
+            outputs: ALL_OFF,
         },
         next: r,
     }

@@ -15,7 +15,7 @@ use Rattle.organ.specs.Stars as organ-stars
 use Rattle.organ.specs.Runs as organ-runs
 use Rattle.claim.specs.Claim.{Tick, output}
 use Rattle.regulator.specs.Lists.{ticksFrom}
-use Rattle.starred.specs.Scenes.{plainSheet, lowOpen}
+use Rattle.claim.specs.Scenes.{plainSheet, lowOpen}
 use Rattle.common.specs.Choice as common-choice
 use Rattle.common.specs.Places as common-places
 use Rattle.measure.specs.Readings as measure-readings

@@ -1,0 +1,147 @@
+-- The rules give the worked lists of crate `claim`, tick by tick, and demand 3 is kept of them: each of its hypotheses is met by a list.
+-- Assumes nothing.
+use mathlib.Core.Path.{_≡_, refl, subst}
+use mathlib.Core.List.{List, [], _∷_, _++_}
+use Prim.Native.Nat.{ℕ}
+use lib.Ieee.{ofBits}
+use lib.ListN.{replicate}
+use Rattle.claim.specs.Claim.{Tick, Opening, All, Some, Begins, Command, output, Kept}
+use Rattle.claim.specs.Scenes.{variedSheet, brought}
+use Rattle.claim.proofs.Ticks.{raises, high}
+use Rattle.claim.proofs.Worked as worked
+use Rattle.claim.proofs.Worked.{freshOpening, waitingOpening, outsideOpening, moveOf, rowT2, servedList, highList, waitingList, outsideList}
+use Rattle.drive.specs.Follow.{restsOf}
+use Rattle.ways.specs.declared.Direction.the-variants.{Raise, Lower}
+use Rattle.input.specs.declared.Input.{Input}
+use Rattle.command.specs.declared.Wait.{Wait}
+use Rattle.command.specs.declared.Wait.the-variants.{Idle, For}
+use Rattle.record.specs.declared.Regulator.{Regulator}
+use Rattle.record.specs.Starting.{freshOf}
+use Rattle.regulator.specs.Lists.{ticksFrom, opening}
+use Rattle.regulator.proofs.Claim.{kept}
+use Rattle.common.specs.Choice as common-choice
+use Rattle.common.specs.Places as common-places
+use Rattle.measure.specs.Readings as measure-readings
+use Rattle.sheet.specs.Sheet as sheet-sheet
+use Rattle.sheet.specs.Table as sheet-table
+use Rattle.organ.specs.Limits as organ-limits
+use Rattle.organ.specs.Organs as organ-organs
+use Rattle.drive.specs.Follow as drive-follow
+use Rattle.fault.specs.Latches as fault-latches
+use Rattle.drive.specs.Shown as drive-shown
+use Rattle.ways.specs.Ways as ways-ways
+use Rattle.input.specs.Brought as input-brought
+use Rattle.tap.specs.Counted as tap-counted
+use Rattle.tap.specs.Positions as tap-positions
+use Rattle.tap.specs.Sliding as tap-sliding
+use Rattle.blocks.specs.Blocked as blocks-blocked
+use Rattle.busbar.specs.Deviation as busbar-deviation
+use Rattle.busbar.specs.Section as busbar-section
+use Rattle.busbar.specs.Voltage as busbar-voltage
+use Rattle.command.specs.Automatic as command-automatic
+use Rattle.command.specs.Deciding as command-deciding
+use Rattle.command.specs.Manual as command-manual
+use Rattle.record.specs.Limits as record-limits
+use Rattle.record.specs.Starting as record-starting
+use Rattle.acting.specs.Accounting as acting-accounting
+use Rattle.sensing.specs.Assessing as sensing-assessing
+use Rattle.acting.specs.Commanding as acting-commanding
+use Rattle.sensing.specs.Observing as sensing-observing
+use Rattle.sensing.specs.Protecting as sensing-protecting
+use Rattle.showing.specs.Showing as showing
+use Rattle.acting.specs.Supervising as acting-supervising
+use Rattle.regulator.specs.Ticks as regulator-ticks
+
+-- what the ticks bring: 100 V, 98 V, 111 V, with the contacts of the worked ticks
+abbrev inBand : Input
+inBand = brought 0x42C8_0000 0x4801
+
+abbrev lowOpen : Input
+lowOpen = brought 0x42C4_0000 0x4801
+
+abbrev lowClosed : Input
+lowClosed = brought 0x42C4_0000 0x4803
+
+abbrev highOpen : Input
+highOpen = brought 0x42DE_0000 0x4401
+
+abbrev served : ℕ → ℕ → List Input
+served before hold = inBand ∷ inBand ∷ (replicate 23 lowOpen ++ (replicate before lowOpen ++ (replicate hold lowClosed ++ replicate 26 lowOpen)))
+
+-- the fresh record, but for its wait and its operations
+abbrev freshBut : Wait → ℕ → Regulator
+freshBut wait operations =
+    let r = freshOf variedSheet in
+    record {
+      settings = r .settings;
+      organs = r .organs;
+      drive = r .drive;
+      latch = r .latch;
+      wait = wait;
+      repeat = r .repeat;
+      last = r .last;
+      «counted_tap» = r .«counted_tap»;
+      operations = operations;
+      buttons = r .buttons;
+    }
+
+-- the records that the lists begin on
+abbrev fresh : Regulator
+fresh = freshOf variedSheet
+
+abbrev waiting : Regulator
+waiting = freshBut (For Raise 10) 0
+
+abbrev outside : Regulator
+outside = freshBut Idle 1000000
+
+pub record Given : Type 0 where
+  pub early : ticksFrom (restsOf (fresh .drive)) fresh (served 4 5) ≡ servedList 4 5
+  pub bound : ticksFrom (restsOf (fresh .drive)) fresh (served 21 24) ≡ servedList 21 24
+  pub high : ticksFrom (restsOf (waiting .drive)) waiting (replicate 21 highOpen) ≡ highList
+  pub held : ticksFrom (restsOf (waiting .drive)) waiting (replicate 13 lowOpen) ≡ waitingList
+  pub refused : ticksFrom (restsOf (outside .drive)) outside (replicate 3 lowOpen) ≡ outsideList
+  pub onFresh : opening fresh ≡ freshOpening
+  pub onWaiting : opening waiting ≡ waitingOpening
+  pub onOutside : opening outside ≡ outsideOpening
+
+pub given : Given
+unfolding ofBits common-choice.choose common-places.zip measure-readings.goodOf measure-readings.heldOf measure-readings.measuredOf sheet-sheet.firstFrom sheet-sheet.takenIn sheet-sheet.firstOutOfRange sheet-sheet.judgeOf sheet-sheet.passesOf sheet-table.rowIn sheet-table.rowOf sheet-table.moduleFactor sheet-table.factorOf sheet-table.lowOf sheet-table.highOf sheet-table.stepOf sheet-table.takenOf sheet-table.takenBy organ-limits.organWithin common-places.every organ-limits.organsWithin organ-organs.organOf organ-organs.tripOf drive-follow.ownOf drive-follow.restOf drive-follow.askedOf drive-follow.movingOf drive-follow.supervisedOf drive-follow.followOf drive-follow.withinOf fault-latches.resetOf fault-latches.laterOf fault-latches.ageOf fault-latches.latchedOf drive-shown.onOf ways-ways.newerOf input-brought.readingsOf tap-counted.upOf tap-counted.downOf tap-counted.stepOf tap-counted.movedOf tap-counted.countedOf tap-positions.rangedOf tap-positions.bcdOf tap-positions.positionOf tap-sliding.standsIn tap-sliding.slidingOf blocks-blocked.endOf blocks-blocked.organsAutomaticOf blocks-blocked.anyTripOf blocks-blocked.tapLostOf blocks-blocked.blocksOf busbar-deviation.supplyOf busbar-deviation.lowOf busbar-deviation.highOf busbar-deviation.bandOf busbar-deviation.levelOf busbar-deviation.farAbove busbar-section.sectionOf busbar-voltage.goodOf busbar-voltage.both busbar-voltage.currentOf busbar-voltage.dropOf busbar-voltage.voltageDrop busbar-voltage.voltageOf command-automatic.ticksOf command-automatic.waitedOf command-automatic.delayOf command-automatic.waitOnOf command-automatic.towardOf command-automatic.sidedOf command-automatic.keptOf command-automatic.repeatOf command-deciding.decidedOf command-manual.pressedOf command-manual.manualOf record-limits.ticksOf record-limits.delaysOf record-limits.motionWithin record-limits.countsWithin record-limits.withinOf record-starting.freshOf acting-accounting.oneMoreOf acting-accounting.operationsOf acting-accounting.accountedOf sensing-assessing.uOf sensing-assessing.assessedOf acting-commanding.sideOf acting-commanding.blockedOf acting-commanding.askOf acting-commanding.situationOf acting-commanding.decisionOf acting-commanding.regulatedOf sensing-observing.observedOf sensing-protecting.amountOf sensing-protecting.organInputOf sensing-protecting.organInputsOf sensing-protecting.protectedOf showing.countedOf showing.signalsOf showing.fieldsOf showing.outputsOf acting-supervising.contactOf acting-supervising.clearedOf acting-supervising.followedOf acting-supervising.supervisedOf regulator-ticks.observedIn regulator-ticks.protectedIn regulator-ticks.assessedIn regulator-ticks.sensedOf regulator-ticks.supervisedIn regulator-ticks.blockedIn regulator-ticks.regulatedIn regulator-ticks.accountedIn regulator-ticks.actedOf regulator-ticks.nextOf regulator-ticks.endOf regulator-ticks.ranOf regulator-ticks.isOut regulator-ticks.outOf regulator-ticks.refusedOf regulator-ticks.tickOf
+given =
+    record {
+      early = refl;
+      bound = refl;
+      high = refl;
+      held = refl;
+      refused = refl;
+      onFresh = refl;
+      onWaiting = refl;
+      onOutside = refl;
+    }
+
+-- ---- demand 3 is kept of them
+
+kept-of : (r : Regulator) (is : List Input) {o : Opening} {l : List Tick} → opening r ≡ o → ticksFrom (restsOf (r .drive)) r is ≡ l → Kept o l
+kept-of r is {o} {l} p q = subst (λ (x : Opening). Kept x l) p (subst (Kept (opening r)) q (kept r is))
+
+-- a row after no waiting ticks, a row under T2, the longest delay, a row under T3, a served command, a wait held before, refusals
+pub record Met : Type 0 where
+  pub afterBand : Begins Raise (raises 23)
+  pub underT2 : Begins Raise (raises 25)
+  pub atTheLatest : Some (Begins Raise) rowT2
+  pub again : Some Command (moveOf 21 24 ++ rowT2)
+  pub underT3 : Begins Lower (high 1 1)
+  pub unblocked : (output 13 (raises 23) ≡ 0) × (output 15 (raises 23) ≡ 0)
+  pub refused : All (λ t. t .refusal ≡ 4) outsideList
+
+pub met : Met
+met =
+    record {
+      afterBand = worked.after-band 4 5 (kept-of fresh (served 4 5) (given .onFresh) (given .early));
+      underT2 = worked.under-t2 (kept-of fresh (served 4 5) (given .onFresh) (given .early));
+      atTheLatest = worked.at-the-latest (kept-of fresh (served 4 5) (given .onFresh) (given .early));
+      again = worked.again (kept-of fresh (served 21 24) (given .onFresh) (given .bound));
+      underT3 = worked.under-t3 (kept-of waiting (replicate 21 highOpen) (given .onWaiting) (given .high));
+      unblocked = worked.unblocked (kept-of waiting (replicate 13 lowOpen) (given .onWaiting) (given .held));
+      refused = worked.refused (kept-of outside (replicate 3 lowOpen) (given .onOutside) (given .refused));
+    }
