@@ -1,39 +1,16 @@
--- For callers: readings meet what `voltage` requires, and a voltage is low or high exactly by the paper's test.
+-- For callers: a voltage is low or high exactly by the paper's test.
 -- Assumes nothing.
 use mathlib.Core.Path.{_≡_, refl, sym, subst}
 use mathlib.Core.Bool.{Bool, true, false, cond}
-use Prim.Native.Nat.{ℕ, zero, suc, _+_, _-_, _*_, _<_, _≤_}
-use native.Mathlib.Nat.{le-trans}
+use Prim.Native.Nat.{ℕ, zero, suc, _+_, _-_, _*_, _<_}
 use native.Mathlib.Omega.{arith}
 use borrow.Author.Tests.{lt-ltb}
-use lib.Dec.{T, ltb, lit≤}
+use lib.Dec.{T, ltb}
 use lib.IntN.{ℤ, pos, negsuc, _+ℤ_, _-ℤ_, _*ℤ_}
 use lib.Signed.{ltZ, _<ℤ_, leZ-yes, ltZ-yes, <ℤ-≤ℤ-trans, clashℤ}
 use Rattle.common.proofs.Cases.{yes, no}
-use Rattle.measure.specs.Readings.{limitOf, measuredOf, AtMost}
-use Rattle.measure.specs.declared.Channel.{Channel}
-use Rattle.measure.specs.declared.Channel.the-variants.{Voltage, Current1A, Current5A}
-use Rattle.measure.specs.declared.Measured.{Measured}
-use Rattle.measure.specs.declared.Measured.the-variants as measured
-use Rattle.measure.specs.declared.Reading.{Reading}
-use Rattle.measure.proofs.Laws.{measured-le}
 use Rattle.busbar.specs.Deviation.{lowOf, highOf, bandOf}
 use Rattle.busbar.specs.declared.voltage.Level.the-variants.{Low, InBand, High}
-
-at-most-le : (n m : ℕ) (r : Measured) → n ≤ m → AtMost n r → AtMost m r
-unfolding AtMost
-at-most-le n m (measured.Good x) l h = le-trans h l
-at-most-le n m (measured.Held x) l h = le-trans h l
-at-most-le n m measured.Missing l h = tt
-
--- each reading, of a voltage or of a current, is at most 200,000
-pub reading-at-most : (c : Channel) (r : Reading) → AtMost 200000 (measuredOf (limitOf c) r)
-reading-at-most c r = at-most-le (1000 * limitOf c) 200000 (measuredOf (limitOf c) r) (go c) (measured-le (limitOf c) r)
-  where
-    go : (c : Channel) → 1000 * limitOf c ≤ 200000
-    go Voltage = lit≤ tt
-    go Current1A = lit≤ tt
-    go Current5A = lit≤ tt
 
 -- the lower edge is below the upper one
 edges : (m d : ℕ) → 0 < d → (pos m -ℤ pos d) <ℤ (pos m +ℤ pos d)

@@ -8,7 +8,8 @@ use Prim.Native.Nat.{ℕ, _+_, _*_, _<_, _≤_, _^_}
 use native.Mathlib.Nat.{le-trans}
 use native.Mathlib.Omega.{arith}
 use borrow.Author.Needs.{needs}
-use lib.Dec.{eqb, ltb, lit<, lit≤}
+use borrow.Author.Tests.{leb-true}
+use lib.Dec.{eqb, leb, ltb, lit<, lit≤}
 use lib.IntN.{ℤ, pos, natAbs, _+ℤ_, _-ℤ_, _*ℤ_}
 use lib.Signed.{ltZ, quotZ}
 use mir.Syntax.{w64}
@@ -18,10 +19,9 @@ use Rattle.common.proofs.Cases.{cases, chosen}
 use Rattle.slots.specs.Slots.{slot, dU, uComp, uSet5, moduleKind, compensationCurrent}
 use Rattle.measure.specs.declared.Measured.{Measured}
 use Rattle.measure.specs.declared.Measured.the-variants as measured
-use Rattle.measure.specs.Readings.{AtMost}
 use Rattle.sheet.specs.Table.{moduleFactor}
 use Rattle.busbar.specs.Section.{goodAbove}
-use Rattle.busbar.specs.Voltage.{goodOf, both, sumOf, differenceOf, currentOf, dropOf, voltageDrop, Within}
+use Rattle.busbar.specs.Voltage.{highest, readingOf, goodOf, both, sumOf, differenceOf, currentOf, dropOf, voltageDrop, Within}
 use Rattle.busbar.specs.Deviation.{bandOf, levelOf, farAbove}
 use Rattle.busbar.specs.declared.voltage.Level.{Level}
 use Rattle.busbar.specs.declared.voltage.Level.the-variants as level
@@ -38,7 +38,7 @@ module _ (r : Bool) (limit : ℕ) where
 -- ---- readings
 
 module _ (r : Value) where
-  pub good-good : (m : Measured) (n : ℕ) → m ≡ measured.Good n → r ≡ Is (pos n) → r ≡ goodOf m
+  pub good-good : (m : Measured) (n : ℕ) → m ≡ measured.Good n → r ≡ readingOf n → r ≡ goodOf m
   unfolding goodOf
   good-good m n p q = rw p q
 
@@ -92,19 +92,19 @@ module _ (a b : Value) (x y : ℤ) (p : a ≡ Is x) (q : b ≡ Is y) (h : Within
   unfolding both
   difference-made = rw (p, q) (ap Is (back (sub first second) tt .is))
 
-good-le : (n : ℕ) (m : Measured) → AtMost n m → Within n (goodOf m)
-unfolding AtMost goodOf Within
-good-le n (measured.Good x) h = h
-good-le n (measured.Held x) h = tt
-good-le n measured.Missing h = tt
+good-le : (m : Measured) → Within highest (goodOf m)
+unfolding goodOf Within
+good-le (measured.Good n) = chosen (Within highest) (leb n highest) (Is (pos n)) Missing (λ p. leb-true n highest p) (λ p. tt)
+good-le (measured.Held n) = tt
+good-le measured.Missing = tt
 
 more : (n m : ℕ) (v : Value) → n ≤ m → Within n v → Within m v
 unfolding Within
 more n m Missing l h = tt
 more n m (Is z) l h = le-trans h l
 
-pub good-within : (r : Value) (m : Measured) → r ≡ goodOf m → AtMost 200000 m → Within (2 ^ 60) r
-good-within r m e h = rw e (more 200000 (2 ^ 60) (goodOf m) (lit≤ tt) (good-le 200000 m h))
+pub good-within : (r : Value) (m : Measured) → r ≡ goodOf m → Within (2 ^ 60) r
+good-within r m e = rw e (more highest (2 ^ 60) (goodOf m) (lit≤ tt) (good-le m))
 
 both-le : (f : ℤ → ℤ → ℤ) → ((x y : ℤ) → natAbs (f x y) ≤ natAbs x + natAbs y) → (n : ℕ) (a b : Value) → Within n a → Within n b → Within (n + n) (both f a b)
 unfolding both Within
@@ -113,16 +113,16 @@ both-le f l n (Is x) Missing h k = tt
 both-le f l n (Is x) (Is y) h k = omega (arith, l x y)
 
 -- |I| is at most the sum of the two currents
-pub current-within : (r : Value) (s : List ℕ) (bus coupler : Measured) → r ≡ currentOf s bus coupler → AtMost 200000 bus → AtMost 200000 coupler → Within 400000 r
+pub current-within : (r : Value) (s : List ℕ) (bus coupler : Measured) → r ≡ currentOf s bus coupler → Within 400000 r
 unfolding currentOf
-current-within r s bus coupler e h k =
-    let b = good-le 200000 bus h in
-    let c = good-le 200000 coupler k in
+current-within r s bus coupler e =
+    let b = good-le bus in
+    let c = good-le coupler in
     rw e
-    (chosen (Within 400000) (eqb (slot s compensationCurrent) 0) _ _ (λ p. more 200000 400000 _ (lit≤ tt) b)
-    (λ p. chosen (Within 400000) (eqb (slot s compensationCurrent) 1) _ _ (λ q. more 200000 400000 _ (lit≤ tt) c)
-    (λ q. chosen (Within 400000) (eqb (slot s compensationCurrent) 2) _ _ (λ o. both-le _-ℤ_ natAbs-sub 200000 _ _ b c)
-    (λ o. both-le _+ℤ_ natAbs-add 200000 _ _ b c))))
+    (chosen (Within 400000) (eqb (slot s compensationCurrent) 0) _ _ (λ p. more highest 400000 _ (lit≤ tt) b)
+    (λ p. chosen (Within 400000) (eqb (slot s compensationCurrent) 1) _ _ (λ q. more highest 400000 _ (lit≤ tt) c)
+    (λ q. chosen (Within 400000) (eqb (slot s compensationCurrent) 2) _ _ (λ o. both-le _-ℤ_ natAbs-sub highest _ _ b c)
+    (λ o. both-le _+ℤ_ natAbs-add highest _ _ b c))))
 
 -- ---- the drop
 

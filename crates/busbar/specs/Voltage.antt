@@ -1,7 +1,7 @@
 -- Rule 6 of 01: the voltage U. Definitions only.
 use Prim.Native.Nat.{ℕ, _*_, _≤_}
 use mathlib.Core.List.{List}
-use lib.Dec.{eqb}
+use lib.Dec.{eqb, leb}
 use lib.IntN.{ℤ, pos, natAbs, _+ℤ_, _-ℤ_, _*ℤ_}
 use lib.Signed.{quotZ}
 use Rattle.common.specs.Choice.{choose}
@@ -12,9 +12,17 @@ use Rattle.sheet.specs.Table.{moduleFactor}
 use Rattle.busbar.specs.declared.voltage.Value.{Value}
 use Rattle.busbar.specs.declared.voltage.Value.the-variants.{Missing, Is}
 
+-- 200 V, or 200 A of a 5 A module, in thousandths
+abbrev pub highest : ℕ
+highest = 200000
+
+-- "a number that is .. above 200 V or 40 × k A is missing": `measure` gives none
+abbrev pub readingOf : ℕ → Value
+readingOf n = choose (leb n highest) (Is (pos n)) Missing
+
 -- the number of a Good reading, which is "missing or Held" otherwise
 unfoldable pub goodOf : Measured → Value
-goodOf (measured.Good n) = Is (pos n)
+goodOf (measured.Good n) = readingOf n
 goodOf (measured.Held n) = Missing
 goodOf measured.Missing = Missing
 

@@ -3,8 +3,7 @@ ghost use mathlib.Core.Path.{_≡_};
 ghost use Prim.Native.Nat.{_≤_, _<_, _^_};
 ghost use lib.IntN.{pos, natAbs, _*ℤ_};
 ghost use lib.Signed.{leZ, ltZ};
-ghost use Rattle.measure.specs.Readings.{AtMost};
-ghost use Rattle.busbar.specs.Voltage.{goodOf, sumOf, differenceOf, currentOf, dropOf, voltageDrop, voltageOf, Within};
+ghost use Rattle.busbar.specs.Voltage.{readingOf, goodOf, sumOf, differenceOf, currentOf, dropOf, voltageDrop, voltageOf, Within};
 ghost use Rattle.busbar.specs.Deviation.{supplyOf, lowOf, highOf, bandOf, levelOf, farAbove};
 use measure::Measured;
 use slots::COMPENSATION;
@@ -29,12 +28,26 @@ pub enum Level {
     High,
 }
 
+// 200 V, or 200 A of a 5 A module: no reading is above it.
+const HIGHEST: u32 = 200_000;
+
+// A reading's number. One above what a reading can be is missing.
+fn reading(n: u32) -> Value
+    ensures { λ r. ⌜ r ≡ readingOf n ⌝ }
+{
+    if n <= HIGHEST {
+        Value::Is(n as i64)
+    } else {
+        Value::Missing
+    }
+}
+
 // The number of a Good reading; a Held one counts as missing here.
 fn good(m: Measured) -> Value
     ensures { λ r. ⌜ r ≡ goodOf m ⌝ }
 {
     match m {
-        Measured::Good(n) => Value::Is(n as i64),
+        Measured::Good(n) => reading(n),
         Measured::Held(_) => Value::Missing,
         Measured::Missing => Value::Missing,
     }
@@ -70,7 +83,6 @@ fn difference(a: Value, b: Value) -> Value
 
 // The current I of the compensation, which slot 4 picks; only the readings that it names are needed.
 fn current(s: &[u32; SLOTS], i_bus: Measured, i_coupler: Measured) -> Value
-    requires { ⌜ AtMost 200000 «i_bus» × AtMost 200000 «i_coupler» ⌝ }
     ensures { λ r. ⌜ r ≡ currentOf (now (s .entry)) «i_bus» «i_coupler» ⌝ }
 {
     let bus = good(i_bus);
@@ -109,7 +121,6 @@ fn voltage_drop(s: &[u32; SLOTS], i: Value) -> Value
 
 // The voltage U: U_AB, less the drop if slot 3 is 1.
 pub fn voltage(s: &[u32; SLOTS], u_ab: Measured, i_bus: Measured, i_coupler: Measured) -> Value
-    requires { ⌜ AtMost 200000 «u_ab» × (AtMost 200000 «i_bus» × AtMost 200000 «i_coupler») ⌝ }
     ensures { λ r. ⌜ r ≡ voltageOf (now (s .entry)) «u_ab» «i_bus» «i_coupler» ⌝ }
 {
     let u = good(u_ab);

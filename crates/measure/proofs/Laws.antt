@@ -20,6 +20,7 @@ use lib.Ieee.Scale.{finite}
 use lib.Ieee.Positive.{num, den, den-pos}
 use Rattle.measure.specs.Exact.{counts, inRange, thousandths}
 use Rattle.measure.specs.Readings.{limitOf, ifInRange, convertedOf, goodOf, heldOf, measuredOf, AtMost}
+use Rattle.measure.specs.declared.Measured.{Measured}
 use Rattle.measure.specs.declared.Channel.{Channel}
 use Rattle.measure.specs.declared.Channel.the-variants.{Voltage, Current1A, Current5A}
 use Rattle.measure.specs.declared.Converted.the-variants.{OutOfRange, Whole}
@@ -234,7 +235,7 @@ module _ (k : ℕ) (few : k ≤ 2000) (n d b : ℕ) (p : Parts n d b) where
   pub floor-le : k * n / d ≤ 400000
   floor-le = let h = p .upper in let m : k * n ≤ 2000 * n = mul-le-mul-right n few in div-le-of-le-mul d (le-trans {m = 400000 * d} (omega arith) (le-of-eq (mul-comm 400000 d)))
 
--- ---- for callers: a measured number is at most 1000 times its limit
+-- ---- a measured number is at most 1000 times its limit
 
 thousandths-le : (l : ℕ) (x : Float) → T (inRange l x) → thousandths x ≤ 1000 * l
 thousandths-le l x t =
@@ -247,8 +248,11 @@ unfolding AtMost goodOf heldOf
 converted-le true t l h = (h tt, h tt)
 converted-le false t l h = (tt, tt)
 
-pub measured-le : (l : ℕ) (r : Reading) → AtMost (1000 * l) (measuredOf l r)
+measured-le : (l : ℕ) (r : Reading) → AtMost (1000 * l) (measuredOf l r)
 unfolding AtMost measuredOf
 measured-le l (Good x) = converted-le (inRange l x) (thousandths x) l (thousandths-le l x) .0
 measured-le l (Held x) = converted-le (inRange l x) (thousandths x) l (thousandths-le l x) .1
 measured-le l Invalid = tt
+
+pub measured : (l : ℕ) (r : Reading) {m : Measured} → m ≡ measuredOf l r → (m ≡ measuredOf l r) × AtMost (1000 * l) m
+measured l r e = (e, rw e (measured-le l r))

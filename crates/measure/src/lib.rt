@@ -1,8 +1,9 @@
 // One measured reading as whole thousandths (mV, mA), by its exact value.
 ghost use mathlib.Core.Path.{_≡_};
+ghost use Prim.Native.Nat.{_*_};
 ghost use lib.Dec.{T};
 ghost use Rattle.measure.specs.Exact.{inRange, thousandths};
-ghost use Rattle.measure.specs.Readings.{limitOf, convertedOf, goodOf, heldOf, measuredOf};
+ghost use Rattle.measure.specs.Readings.{limitOf, convertedOf, goodOf, heldOf, measuredOf, AtMost};
 
 // What the module hands over: a number in V or A, fresh or held from before, or nothing.
 pub enum Reading {
@@ -91,9 +92,10 @@ fn as_held(a: Converted) -> Measured
     }
 }
 
-// What a reading counts as.
+// What a reading counts as; its number is never above the channel's limit.
 pub fn measure(c: Channel, r: Reading) -> Measured
-    ensures { λ m. ⌜ m ≡ measuredOf (limitOf c) r ⌝ }
+    ensures each { λ m. ⌜ m ≡ measuredOf (limitOf c) r ⌝ }
+    ensures within { λ m. ⌜ AtMost (1000 * limitOf c) m ⌝ }
 {
     match r {
         Reading::Good(x) => as_good(convert(c, x)),

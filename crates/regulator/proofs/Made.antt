@@ -1,17 +1,10 @@
 -- The stages make the tick: each law is over plain values, as the functions have them, and `search` finds it.
 -- Assumes nothing.
 use mathlib.Core.Path.{_≡_}
-use mathlib.Core.Bool.{Bool}
 use mathlib.Core.List.{List}
 use Prim.Native.Nat.{ℕ}
-use lib.Dec.{eqb}
-use Rattle.measure.specs.Readings.{AtMost}
-use Rattle.measure.specs.declared.Channel.the-variants.{Voltage}
-use Rattle.busbar.proofs.Laws.{reading-at-most}
-use Rattle.slots.specs.Slots.{slot, moduleKind}
 use Rattle.input.specs.declared.Contacts.{Contacts}
 use Rattle.input.specs.declared.Input.{Input}
-use Rattle.input.specs.Brought.{readingsOf, currentOf}
 use Rattle.organ.specs.declared.Organs.{Organs}
 use Rattle.blocks.specs.declared.Blocks.{Blocks}
 use Rattle.record.specs.declared.Regulator.{Regulator}
@@ -33,14 +26,6 @@ use Rattle.regulator.specs.declared.Acted.{Acted}
 use Rattle.regulator.specs.declared.Sensed.{Sensed}
 use Rattle.regulator.specs.declared.Ticked.{Ticked}
 use Rattle.regulator.specs.Ticks.{observedIn, protectedIn, assessedIn, sensedOf, supervisedIn, blockedIn, memoryOf, regulatedIn, accountedIn, actedOf, shownOf, nextOf, endOf, ranOf}
-
--- the readings are bounded, as rule 6 asks
-pub bounded : (s : List ℕ) (i : Input) (closed : Bool) (counted : ℕ) {o : Observed} → o ≡ observedOf s i closed counted
-    → AtMost 200000 (o .readings .«u_ab») × (AtMost 200000 (o .readings .«i_bus») × AtMost 200000 (o .readings .«i_coupler»))
-unfolding observedOf readingsOf
-bounded s i closed counted e =
-    rw e
-    (reading-at-most Voltage (i .«u_ab»), (reading-at-most (currentOf (eqb (slot s moduleKind) 1)) (i .«i_bus»), reading-at-most (currentOf (eqb (slot s moduleKind) 1)) (i .«i_coupler»)))
 
 module _ (r : Regulator) (i : Input) (c : Contacts) where
   pub sense-made : {o : Observed} {g : Organs} {a : Assessed}

@@ -1,6 +1,5 @@
 // Rule 6: the voltage against the band around U_supp.
 ghost use mathlib.Core.Path.{_≡_};
-ghost use Rattle.measure.specs.Readings.{AtMost};
 ghost use Rattle.sensing.specs.Assessing.{assessedOf};
 use busbar::voltage::Level;
 use input::Contacts;
@@ -13,9 +12,8 @@ pub struct Assessed {
     pub far: bool,
 }
 
-// Rule 6. What `input::measure_all` gives is never above 200,000.
+// Rule 6.
 pub fn assess(s: &[u32; SLOTS], x: Readings, c: Contacts) -> Assessed
-    requires { ⌜ AtMost 200000 (x .«u_ab») × (AtMost 200000 (x .«i_bus») × AtMost 200000 (x .«i_coupler»)) ⌝ }
     ensures { λ r. ⌜ r ≡ assessedOf (now (s .entry)) x c ⌝ }
 {
     let u_ab = x.u_ab;

@@ -1,4 +1,5 @@
 use Rattle.measure.proofs.Qualities.{qualities}
+use Rattle.measure.proofs.Laws.{measured}
 use borrow.Author.Needs.{needs}
 use Rattle.measure.proofs.measure.Statement.{statement}
 use Rattle.measure.proofs.measure.Tie as tie
@@ -25,13 +26,13 @@ enum-told : tie.Need-enum-told
 enum-told c = search needs
 
 returns : tie.Need-returns
-returns c = search qualities
+returns c = measured _ _ (search qualities)
 
 returns-2 : tie.Need-returns-2
-returns-2 c = search qualities
+returns-2 c = measured _ _ (search qualities)
 
 returns-3 : tie.Need-returns-3
-returns-3 c = search qualities
+returns-3 c = measured _ _ (search qualities)
 
 pub measure-spec : {M : Type 1} → statement M
 measure-spec =

@@ -1,4 +1,4 @@
-use Rattle.regulator.proofs.Made.{bounded, sense-made}
+use Rattle.regulator.proofs.Made.{sense-made}
 use borrow.Author.Needs.{needs}
 use Rattle.regulator.proofs.sense.Statement.{statement}
 use Rattle.regulator.proofs.sense.Tie as tie
@@ -18,7 +18,7 @@ protect-requires c κs = search needs
 
 -- src/lib.rt:59:9
 assess-requires : tie.Need-assess-requires
-assess-requires c κs = search bounded
+assess-requires c κs = search needs
 
 -- src/lib.rt:51:1
 returns : tie.Need-returns

@@ -6,8 +6,8 @@ use Rattle.busbar.proofs.voltage.good.Tie as tie
 enum-known-m : tie.Need-enum-known-m
 enum-known-m c = search needs
 
-cast-t4 : tie.Need-cast-t4
-cast-t4 c = search needs
+reading-requires : tie.Need-reading-requires
+reading-requires c κs = search needs
 
 enum-told : tie.Need-enum-told
 enum-told c = search needs
@@ -26,4 +26,4 @@ returns-3 c = search values
 
 pub good-spec : {M : Type 1} → statement M
 good-spec =
-    tie.close (tie.spec enum-known-m cast-t4 enum-told enum-told-2 returns returns-2 returns-3)
+    tie.close (tie.spec enum-known-m reading-requires enum-told enum-told-2 returns returns-2 returns-3)
