@@ -1,19 +1,25 @@
--- The tick of an image: what it answers, and when it refuses. The start of one.
+-- What a tick of an image promises, and the start of one.
 -- Assumes nothing.
-use mathlib.Core.Path.{_≡_, refl, sym, ap, _∙_}
+use mathlib.Core.Path.{_≡_, refl, sym, ap, _∙_, subst}
 use mathlib.Core.Bool.{Bool, true, false}
-use mathlib.Core.List.{List}
+use mathlib.Core.List.{List, _∷_}
 use Prim.Native.Nat.{ℕ}
+use native.Mathlib.Omega.{arith}
 use Rattle.common.specs.Choice.{choose}
-use Rattle.common.proofs.Cases.{yes, no, chosen}
+use Rattle.common.proofs.Cases.{yes, no}
 use Rattle.input.specs.declared.Input.{Input}
 use Rattle.record.specs.declared.Regulator.{Regulator}
 use Rattle.record.specs.declared.starting.Started as record-started
 use Rattle.record.specs.Limits.{withinOf}
 use Rattle.record.specs.Starting.{repliedOf, startOf}
+use Rattle.sheet.specs.declared.Answer.{Answer}
+use Rattle.sheet.specs.declared.Answer.the-variants.{Taken, WrongLength, OutOfRange, TapOrder}
 use Rattle.sheet.specs.Sheet.{numberOf, slotOf}
+use Rattle.claim.specs.Claim.{Kept}
 use Rattle.regulator.specs.declared.Ticked.{Ticked}
-use Rattle.regulator.specs.Ticks.{outOf, endOf, ranOf, refusedOf, tickOf}
+use Rattle.regulator.specs.Ticks.{refusedOf, tickOf}
+use Rattle.regulator.proofs.Next.{tick-lasting}
+use Rattle.regulator.proofs.Steps.{accepted-is}
 use Rattle.image.specs.declared.FromImage.{FromImage}
 use Rattle.image.specs.declared.Image.{Image}
 use Rattle.image.specs.declared.bringing.Brought.{Brought}
@@ -22,43 +28,66 @@ use Rattle.image.specs.Bringing.{inputOf}
 use Rattle.boundary.specs.declared.Started.{Started}
 use Rattle.boundary.specs.declared.ticking.ImageTicked.{ImageTicked}
 use Rattle.boundary.specs.Hosting.{startedImage, tickedImage, advancedOf, refusedImage, isAccepted, imageTickOf}
+use Rattle.boundary.specs.Lists.{imageListFrom, imageOpening}
+use Rattle.boundary.proofs.Lists.{accepted-of, ticked-of, kept-on, none-accepted, none-ticked, none-kept}
 
--- ---- a record's tick, by its limits
+-- ---- the clauses of a tick that got m and b and gave t
 
-within-refusal : (r : Regulator) (i : Input) → withinOf r ≡ true → tickOf r i .reply .refusal ≡ 0
-unfolding tickOf outOf ranOf endOf
-within-refusal r i h =
-    chosen (λ (t : Ticked). t .reply .refusal ≡ 0) (withinOf r) _ _
-    (λ p. chosen (λ (t : Ticked). t .reply .refusal ≡ 0) _ _ _ (λ q. refl) (λ q. refl))
-    (λ p. let z : _≡_ {A = Bool} true false = sym h ∙ p in cc)
+abbrev pub Lists : Image → Brought → ImageTicked → Type 0
+Lists m b t = (later : List Brought) → Kept (imageOpening m) (imageListFrom m b t later)
 
-outside-tick : (r : Regulator) (i : Input) → withinOf r ≡ false → refusedOf r ≡ tickOf r i
-unfolding tickOf
-outside-tick r i h = no _ _ _ _ h refl
+abbrev pub Promised : Image → Brought → ImageTicked → Type 0
+Promised m b t =
+    (t ≡ imageTickOf m b)
+    × ((t .refusal ≡ choose (isAccepted m) 0 4)
+    × ((isAccepted m ≡ false → t ≡ refusedImage m) × ((isAccepted (t .next) ≡ isAccepted m) × Lists m b t)))
 
-outside-refusal : (r : Regulator) (i : Input) → withinOf r ≡ false → tickOf r i .reply .refusal ≡ 4
-unfolding refusedOf
-outside-refusal r i h = sym (ap (λ (t : Ticked). t .reply .refusal) (outside-tick r i h))
+-- on the image of a record, by what is known of the record's tick
+module _ (r : Regulator) (b : Brought) where
+  outside-image : withinOf r ≡ false → tickedImage (tickOf r (inputOf b)) ≡ refusedImage (imageOf r)
+  unfolding tickedImage refusedImage refusedOf tickOf
+  outside-image h = sym (ap tickedImage (no (refusedOf r) _ _ _ h refl))
 
-outside-image : (r : Regulator) (i : Input) → withinOf r ≡ false → tickedImage (tickOf r i) ≡ refusedImage (imageOf r)
-unfolding tickedImage refusedImage refusedOf
-outside-image r i h = sym (ap tickedImage (outside-tick r i h))
+  image-promised : Promised (imageOf r) b (imageTickOf (imageOf r) b)
+  unfolding tickedImage
+  image-promised = (
+    refl,
+    (
+      rw (ticked-of r b, accepted-of r) (accepted-is r (inputOf b)),
+      (
+        (λ n. ticked-of r b ∙ outside-image (sym (accepted-of r) ∙ n)),
+        (
+          rw (ticked-of r b, accepted-of r) (accepted-of (tickOf r (inputOf b) .next) ∙ tick-lasting r (inputOf b)),
+          (λ later. kept-on r (b ∷ later)),
+        ),
+      ),
+    ),
+  )
 
--- ---- the same of an image's
+-- on any other image
+none-promised : (m : Image) (b : Brought) → recordOf m .taken ≡ false → Promised m b (imageTickOf m b)
+unfolding refusedImage
+none-promised m b none = (
+  refl,
+  (
+    no _ _ _ _ (none-accepted m none) (ap (λ (t : ImageTicked). t .refusal) (none-ticked m none b)),
+    (
+      (λ n. none-ticked m none b),
+      (ap (λ (t : ImageTicked). isAccepted (t .next)) (none-ticked m none b), (λ later. none-kept m none (b ∷ later))),
+    ),
+  ),
+)
 
-refusal-of : (m : Image) (b : Brought) (taken within : Bool) → recordOf m .taken ≡ taken → withinOf (recordOf m .state) ≡ within
-    → imageTickOf m b .refusal ≡ choose (isAccepted m) 0 4
-unfolding imageTickOf isAccepted advancedOf tickedImage refusedImage choose
-refusal-of m b true true p q = rw (p, q) (within-refusal (recordOf m .state) (inputOf b) q)
-refusal-of m b true false p q = rw (p, q) (outside-refusal (recordOf m .state) (inputOf b) q)
-refusal-of m b false within p q = rw p
+either-promised : (m : Image) (b : Brought) (taken : Bool) → recordOf m .taken ≡ taken → (taken ≡ true → imageOf (recordOf m .state) ≡ m)
+    → Promised m b (imageTickOf m b)
+either-promised m b true p same =
+    subst (λ (q : Image). Promised q b (imageTickOf q b)) (same refl) (image-promised (recordOf m .state) b)
+either-promised m b false p same = none-promised m b p
 
-left-of : (m : Image) (b : Brought) (taken within : Bool) → recordOf m .taken ≡ taken → withinOf (recordOf m .state) ≡ within
-    → (recordOf m .taken ≡ true → imageOf (recordOf m .state) ≡ m) → isAccepted m ≡ false → imageTickOf m b ≡ refusedImage m
-unfolding imageTickOf isAccepted advancedOf choose
-left-of m b true true p q same n = let z : _≡_ {A = Bool} true false = rw (p, q) at n in cc
-left-of m b true false p q same n = rw p (outside-image (recordOf m .state) (inputOf b) q ∙ ap refusedImage (same p))
-left-of m b false within p q same n = rw p
+-- with what `record_of` says of the image
+pub hosted : (m : Image) (b : Brought) {x : FromImage} {t : ImageTicked} → (x ≡ recordOf m) × (x .taken ≡ true → imageOf (x .state) ≡ m)
+    → t ≡ imageTickOf m b → Promised m b t
+hosted m b told u = subst (Promised m b) (sym u) (either-promised m b _ refl (rw (told .0) at (told .1)))
 
 -- ---- over plain values, as the functions ask it
 
@@ -76,19 +105,18 @@ module _ (m : Image) (b : Brought) {x : FromImage} {t : ImageTicked} (e : x ≡ 
   unfolding imageTickOf
   refused-made n u = no _ _ _ _ (sym (ap (λ (q : FromImage). q .taken) e) ∙ n) u
 
--- with what `record_of` says of the image
-pub hosted : (m : Image) (b : Brought) {x : FromImage} {t : ImageTicked} → (x ≡ recordOf m) × (x .taken ≡ true → imageOf (x .state) ≡ m)
-    → t ≡ imageTickOf m b
-    → (t ≡ imageTickOf m b) × ((t .refusal ≡ choose (isAccepted m) 0 4) × (isAccepted m ≡ false → t ≡ refusedImage m))
-hosted m b told u = (
-  u,
-  (
-    ap (λ (q : ImageTicked). q .refusal) u ∙ refusal-of m b _ _ refl refl,
-    (λ n. u ∙ left-of m b _ _ refl refl (rw (told .0) at (told .1)) n),
-  ),
-)
-
 pub started-made : (list : List ℕ) (s : record-started.Started) {n i : ℕ} {m : Image} → repliedOf s ≡ startOf list → n ≡ numberOf (s .answer)
     → i ≡ slotOf (s .answer) → m ≡ imageOf (s .state) → _≡_ {A = Started} (record { number = n; slot = i; image = m }) (startedImage (startOf list))
 unfolding startedImage
 started-made list s e p q r = rw (← e, p, q, r)
+
+-- number 0 is that of a list that is taken
+taken-of : (a : Answer) → numberOf a ≡ 0 → a ≡ Taken
+taken-of Taken p = refl
+taken-of WrongLength p = absurd (omega arith)
+taken-of (OutOfRange i) p = absurd (omega arith)
+taken-of (TapOrder i) p = absurd (omega arith)
+
+pub started-lasts : (s : record-started.Started) {n : ℕ} {m : Image} → (s .answer ≡ Taken → withinOf (s .state) ≡ true) → n ≡ numberOf (s .answer)
+    → m ≡ imageOf (s .state) → n ≡ 0 → isAccepted m ≡ true
+started-lasts s h p q z = ap isAccepted q ∙ accepted-of (s .state) ∙ h (taken-of (s .answer) (sym p ∙ z))

@@ -1,1 +1,3 @@
+pub mod Refused
+pub mod Lists
 pub mod Hosted

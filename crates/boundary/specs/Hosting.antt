@@ -1,4 +1,5 @@
--- What the three functions that a host calls answer. Definitions only.
+-- What the functions that a host calls answer. Definitions only.
+use Prim.Native.Nat.{ℕ}
 use mathlib.Core.Bool.{Bool, _&&_}
 use lib.ListN.{replicate}
 use Rattle.showing.specs.Showing.{fieldCount}
@@ -14,6 +15,7 @@ use Rattle.image.specs.Images.{imageOf, recordOf}
 use Rattle.image.specs.Bringing.{inputOf}
 use Rattle.boundary.specs.declared.Started.{Started}
 use Rattle.boundary.specs.declared.ticking.ImageTicked.{ImageTicked}
+use Rattle.boundary.specs.declared.ticking.Outputs.{Outputs}
 
 -- the paper's number and slot, with the image of the record
 unfoldable pub startedImage : Start → Started
@@ -37,3 +39,7 @@ isAccepted m = recordOf m .taken && withinOf (recordOf m .state)
 -- the tick of the image's record; refused where there is none
 unfoldable pub imageTickOf : Image → Brought → ImageTicked
 imageTickOf m b = choose (recordOf m .taken) (advancedOf (recordOf m .state) b) (refusedImage m)
+
+-- what a host that lent an image finds: the number returned, the outputs, and the image
+abbrev pub foundOf : ℕ → Outputs → Image → ImageTicked
+foundOf number outputs image = record { refusal = number; outputs = outputs; next = image }

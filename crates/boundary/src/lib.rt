@@ -1,8 +1,13 @@
 // The library for a host in C or Rust. `c/avr.h` has the same declarations for C. The host holds the image of a record,
 // lends it for a tick and finds it advanced.
 ghost use mathlib.Core.Path.{_≡_};
+ghost use mathlib.Core.Bool.{true, false};
+ghost use mathlib.Core.List.{List};
+ghost use Rattle.common.specs.Choice.{choose};
 ghost use Rattle.record.specs.Starting.{startOf};
-ghost use Rattle.boundary.specs.Hosting.{startedImage, imageTickOf};
+ghost use Rattle.claim.specs.Claim.{Kept};
+ghost use Rattle.boundary.specs.Hosting.{startedImage, refusedImage, isAccepted, imageTickOf, foundOf};
+ghost use Rattle.boundary.specs.Lists.{imageListFrom, imageOpening};
 
 pub mod ticking;
 
@@ -20,10 +25,11 @@ pub struct Started {
     pub image: Image,
 }
 
-// Starts a regulator from a setting sheet of any length; the list is left as it was.
+// Starts a regulator from a setting sheet of any length; the list is left as it was. With number 0 the image is accepted.
 #[no_mangle]
 pub extern "C" fn avr_start(list: &[u32]) -> Started
-    ensures { λ r. ⌜ r ≡ startedImage (startOf (now (list .entry))) ⌝ }
+    ensures reply { λ r. ⌜ r ≡ startedImage (startOf (now (list .entry))) ⌝ }
+    ensures lasting { λ r. ⌜ (r .number ≡ 0 → isAccepted (r .image) ≡ true) ⌝ }
 {
     let s = record::starting::start(list);
     let a = s.answer;
@@ -38,14 +44,23 @@ pub extern "C" fn avr_start(list: &[u32]) -> Started
     }
 }
 
-// One tick of the lent image: 0, or the refusal 4, with the image left as it was and outputs all 0.
+// One tick of the lent image: 0, or the refusal 4, with the image left as it was and outputs all 0. The clauses are
+// `image_tick`'s, of what the host finds.
 #[no_mangle]
 pub extern "C" fn avr_tick(image: &mut Image, brought: &Brought, outputs: &mut Outputs) -> u32
-    ensures { λ n.
+    ensures each { λ n.
+        ⌜ foundOf n (now (outputs .exit)) (now (image .exit)) ≡ imageTickOf (now (image .entry)) (now (brought .entry)) ⌝ }
+    ensures refusal { λ n. ⌜ n ≡ choose (isAccepted (now (image .entry))) 0 4 ⌝ }
+    ensures left { λ n.
         ⌜
-        (n ≡ imageTickOf (now (image .entry)) (now (brought .entry)) .refusal)
-        × (now (outputs .exit) ≡ imageTickOf (now (image .entry)) (now (brought .entry)) .outputs)
-        × (now (image .exit) ≡ imageTickOf (now (image .entry)) (now (brought .entry)) .next)
+        (isAccepted (now (image .entry)) ≡ false
+        → foundOf n (now (outputs .exit)) (now (image .exit)) ≡ refusedImage (now (image .entry)))
+        ⌝ }
+    ensures lasting { λ _. ⌜ isAccepted (now (image .exit)) ≡ isAccepted (now (image .entry)) ⌝ }
+    ensures lists { λ n.
+        ⌜
+        ((later : List Brought) → Kept (imageOpening (now (image .entry)))
+        (imageListFrom (now (image .entry)) (now (brought .entry)) (foundOf n (now (outputs .exit)) (now (image .exit))) later))
         ⌝ }
 {
     let x = ticking::image_tick(*image, *brought);
@@ -57,7 +72,12 @@ pub extern "C" fn avr_tick(image: &mut Image, brought: &Brought, outputs: &mut O
 // The same of an image by value.
 #[no_mangle]
 pub extern "C" fn avr_tick_by_value(image: Image, brought: Brought) -> ImageTicked
-    ensures { λ t. ⌜ t ≡ imageTickOf image brought ⌝ }
+    ensures each { λ t. ⌜ t ≡ imageTickOf image brought ⌝ }
+    ensures refusal { λ t. ⌜ t .refusal ≡ choose (isAccepted image) 0 4 ⌝ }
+    ensures left { λ t. ⌜ (isAccepted image ≡ false → t ≡ refusedImage image) ⌝ }
+    ensures lasting { λ t. ⌜ isAccepted (t .next) ≡ isAccepted image ⌝ }
+    ensures lists { λ t.
+        ⌜ ((later : List Brought) → Kept (imageOpening image) (imageListFrom image brought t later)) ⌝ }
 {
     ticking::image_tick(image, brought)
 }

@@ -1,7 +1,10 @@
 // One tick of an image, by value.
 ghost use mathlib.Core.Path.{_≡_};
 ghost use mathlib.Core.Bool.{false};
+ghost use mathlib.Core.List.{List};
 ghost use Rattle.common.specs.Choice.{choose};
+ghost use Rattle.claim.specs.Claim.{Kept};
+ghost use Rattle.boundary.specs.Lists.{imageListFrom, imageOpening};
 ghost use Rattle.boundary.specs.Hosting.{advancedOf, refusedImage, isAccepted, imageTickOf};
 use image::Image;
 use image::bringing::Brought;
@@ -44,6 +47,8 @@ pub fn image_tick(m: Image, b: Brought) -> ImageTicked
     ensures each { λ t. ⌜ t ≡ imageTickOf m b ⌝ }
     ensures refusal { λ t. ⌜ t .refusal ≡ choose (isAccepted m) 0 4 ⌝ }
     ensures left { λ t. ⌜ (isAccepted m ≡ false → t ≡ refusedImage m) ⌝ }
+    ensures lasting { λ t. ⌜ isAccepted (t .next) ≡ isAccepted m ⌝ }
+    ensures lists { λ t. ⌜ ((later : List Brought) → Kept (imageOpening m) (imageListFrom m b t later)) ⌝ }
 {
     let x = image::images::record_of(m);
     if x.taken {

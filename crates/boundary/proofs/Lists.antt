@@ -1,0 +1,103 @@
+-- Lists of ticks through the boundary: on the image of a record they are the record's own, and on any other image all refused.
+-- Assumes nothing.
+use mathlib.Core.Path.{_≡_, refl, sym, ap, _∙_, subst}
+use mathlib.Core.Bool.{Bool, true, false}
+use mathlib.Core.List.{List, [], _∷_, map}
+use Prim.Native.Nat.{ℕ}
+use lib.Dec.{eqb}
+use Rattle.common.specs.Choice.{choose}
+use Rattle.common.proofs.Cases.{no}
+use Rattle.ways.specs.declared.Direction.the-variants.{Raise, Lower}
+use Rattle.drive.specs.declared.Drive.{Drive}
+use Rattle.drive.specs.declared.Drive.the-variants.{Resting, Asked, Moving}
+use Rattle.drive.specs.Follow.{restsOf}
+use Rattle.command.specs.declared.Wait.{Wait}
+use Rattle.command.specs.declared.Wait.the-variants.{Idle, For}
+use Rattle.record.specs.declared.Regulator.{Regulator}
+use Rattle.record.specs.Limits.{withinOf}
+use Rattle.claim.specs.Claim.{Tick, All, Kept, restAfter}
+use Rattle.regulator.specs.Ticks.{tickOf}
+use Rattle.regulator.specs.Lists.{seen, ticksFrom, heldFor, opening}
+use Rattle.regulator.proofs.Claim.{kept}
+use Rattle.coding.specs.Numbers.{driveImage, waitImage}
+use Rattle.image.specs.declared.Image.{Image}
+use Rattle.image.specs.declared.bringing.Brought.{Brought}
+use Rattle.image.specs.Images.{imageOf, recordOf}
+use Rattle.image.specs.Bringing.{inputOf}
+use Rattle.image.proofs.Whole.{back}
+use Rattle.boundary.specs.declared.ticking.ImageTicked.{ImageTicked}
+use Rattle.boundary.specs.Hosting.{tickedImage, advancedOf, refusedImage, isAccepted, imageTickOf}
+use Rattle.boundary.specs.Lists.{imageSeen, imageTicksFrom, imageListFrom, imageOpening}
+use Rattle.boundary.proofs.Refused.{Refused, refused-kept}
+
+-- the ticks of a list on m that opens as a call's does
+abbrev pub ticksOn : Image → List Brought → List Tick
+ticksOn m bs = imageTicksFrom (eqb (m .drive .kind) 0) m bs
+
+-- ---- the image of a record
+
+low-of : (w : Wait) → choose (eqb (waitImage w .side) 1) (waitImage w .ticks) 0 ≡ heldFor Raise w
+unfolding waitImage choose
+low-of Idle = refl
+low-of (For Raise n) = refl
+low-of (For Lower n) = refl
+
+high-of : (w : Wait) → choose (eqb (waitImage w .side) 2) (waitImage w .ticks) 0 ≡ heldFor Lower w
+unfolding waitImage choose
+high-of Idle = refl
+high-of (For Raise n) = refl
+high-of (For Lower n) = refl
+
+rest-of : (d : Drive) → eqb (driveImage d .kind) 0 ≡ restsOf d
+unfolding driveImage
+rest-of Resting = refl
+rest-of (Asked d n) = refl
+rest-of (Moving d n true) = refl
+rest-of (Moving d n false) = refl
+
+module _ (r : Regulator) where
+  pub accepted-of : isAccepted (imageOf r) ≡ withinOf r
+  unfolding isAccepted
+  accepted-of = rw (back r)
+
+  pub ticked-of : (b : Brought) → imageTickOf (imageOf r) b ≡ tickedImage (tickOf r (inputOf b))
+  unfolding imageTickOf advancedOf choose
+  ticked-of b = rw (back r)
+
+  opening-of : imageOpening (imageOf r) ≡ opening r
+  unfolding imageOf
+  opening-of = rw (accepted-of, low-of (r .wait), high-of (r .wait))
+
+  seen-of : (rest : Bool) (b : Brought) → imageSeen rest (imageOf r) b (tickedImage (tickOf r (inputOf b))) ≡ seen rest r (inputOf b) (tickOf r (inputOf b))
+  unfolding imageOf inputOf tickedImage
+  seen-of rest b = rw (back r)
+
+ticks-of : (rest : Bool) (r : Regulator) (bs : List Brought) → imageTicksFrom rest (imageOf r) bs ≡ ticksFrom rest r (map inputOf bs)
+unfolding tickedImage
+ticks-of rest r [] = refl
+ticks-of rest r (b ∷ bs) =
+    rw (ticked-of r b, seen-of r rest b)
+    (ap (λ (l : List Tick). seen rest r (inputOf b) (tickOf r (inputOf b)) ∷ l) (ticks-of _ (tickOf r (inputOf b) .next) bs))
+
+pub kept-on : (r : Regulator) (bs : List Brought) → Kept (imageOpening (imageOf r)) (ticksOn (imageOf r) bs)
+unfolding imageOf
+kept-on r bs = rw (opening-of r, rest-of (r .drive), ticks-of _ r bs) (kept r (map inputOf bs))
+
+-- ---- an image of no record
+
+module _ (m : Image) (none : recordOf m .taken ≡ false) where
+  pub none-accepted : isAccepted m ≡ false
+  unfolding isAccepted
+  none-accepted = rw none
+
+  pub none-ticked : (b : Brought) → imageTickOf m b ≡ refusedImage m
+  unfolding imageTickOf
+  none-ticked b = sym (no _ _ _ _ none refl)
+
+  all-refused : (rest : Bool) (bs : List Brought) → All Refused (imageTicksFrom rest m bs)
+  unfolding refusedImage
+  all-refused rest [] = tt
+  all-refused rest (b ∷ bs) = rw (none-ticked b) ((refl, refl), all-refused _ bs)
+
+  pub none-kept : (bs : List Brought) → Kept (imageOpening m) (ticksOn m bs)
+  none-kept bs = refused-kept (imageOpening m) (ticksOn m bs) none-accepted (all-refused _ bs)

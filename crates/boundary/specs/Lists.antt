@@ -1,0 +1,50 @@
+-- Lists of ticks through the boundary, as demand 3 speaks of them (crate `claim`): what a host sees of its images and outputs.
+use mathlib.Core.Bool.{Bool}
+use mathlib.Core.List.{List, [], _∷_}
+use lib.Dec.{eqb}
+use Rattle.common.specs.Choice.{choose}
+use Rattle.ways.specs.declared.Direction.the-variants.{Raise, Lower}
+use Rattle.claim.specs.Claim.{Tick, Opening, restAfter}
+use Rattle.regulator.specs.Lists.{delayIn}
+use Rattle.image.specs.declared.Image.{Image}
+use Rattle.image.specs.declared.bringing.Brought.{Brought}
+use Rattle.image.specs.Images.{recordOf}
+use Rattle.image.specs.Bringing.{inputOf}
+use Rattle.boundary.specs.declared.ticking.ImageTicked.{ImageTicked}
+use Rattle.boundary.specs.Hosting.{isAccepted, imageTickOf}
+
+-- the tick that starts at rest or not, got m and b, and gave t. *Delay in force*: "the one that rule 9 names on that tick", of the image's
+-- record
+abbrev pub imageSeen : Bool → Image → Brought → ImageTicked → Tick
+imageSeen rest m b t =
+    record {
+      rest = rest;
+      settings = m .settings;
+      lowDelay = delayIn Raise (recordOf m .state) (inputOf b);
+      highDelay = delayIn Lower (recordOf m .state) (inputOf b);
+      contacts = b .contacts;
+      refusal = t .refusal;
+      outputs = t .outputs .fields;
+    }
+
+-- the ticks of a list, each getting the image that the last one returned
+abbrev pub imageTicksFrom : Bool → Image → List Brought → List Tick
+imageTicksFrom rest m [] = []
+imageTicksFrom rest m (b ∷ bs) =
+    imageSeen rest m b (imageTickOf m b) ∷ imageTicksFrom (restAfter (imageTickOf m b .outputs .fields)) (imageTickOf m b .next) bs
+
+-- the list that a call opens: its own tick, which got m and b and gave t, and then the ticks of `later`. *At rest*, "for the first tick,
+-- the record handed in holds no asked command and no move": the image's drive is of kind 0.
+abbrev pub imageListFrom : Image → Brought → ImageTicked → List Brought → List Tick
+imageListFrom m b t later =
+    imageSeen (eqb (m .drive .kind) 0) m b t ∷ imageTicksFrom (restAfter (t .outputs .fields)) (t .next) later
+
+-- what a list on the image m begins on. Its wait is to the low side with 1, to the high side with 2.
+abbrev pub imageOpening : Image → Opening
+imageOpening m =
+    record {
+      within = isAccepted m;
+      settings = m .settings;
+      lowWait = choose (eqb (m .wait .side) 1) (m .wait .ticks) 0;
+      highWait = choose (eqb (m .wait .side) 2) (m .wait .ticks) 0;
+    }
