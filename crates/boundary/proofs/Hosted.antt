@@ -3,20 +3,19 @@
 use mathlib.Core.Path.{_≡_, refl, sym, ap, _∙_, subst}
 use mathlib.Core.Bool.{Bool, true, false}
 use mathlib.Core.List.{List, _∷_}
+use mathlib.Core.Logic.{_↔_}
 use Prim.Native.Nat.{ℕ}
 use native.Mathlib.Omega.{arith}
 use Rattle.common.specs.Choice.{choose}
 use Rattle.common.proofs.Cases.{yes, no}
-use Rattle.input.specs.declared.Input.{Input}
 use Rattle.record.specs.declared.Regulator.{Regulator}
-use Rattle.record.specs.declared.starting.Started as record-started
+use Rattle.record.specs.declared.starting.Started.{Started}
 use Rattle.record.specs.Limits.{withinOf}
-use Rattle.record.specs.Starting.{repliedOf, startOf}
 use Rattle.sheet.specs.declared.Answer.{Answer}
 use Rattle.sheet.specs.declared.Answer.the-variants.{Taken, WrongLength, OutOfRange, TapOrder}
-use Rattle.sheet.specs.Sheet.{numberOf, slotOf}
+use Rattle.sheet.specs.Settings.{Settings}
+use Rattle.sheet.specs.Sheet.{numberOf}
 use Rattle.claim.specs.Claim.{Kept}
-use Rattle.regulator.specs.declared.Ticked.{Ticked}
 use Rattle.regulator.specs.Ticks.{refusedOf, tickOf}
 use Rattle.regulator.proofs.Next.{tick-lasting}
 use Rattle.regulator.proofs.Steps.{accepted-is}
@@ -25,9 +24,8 @@ use Rattle.image.specs.declared.Image.{Image}
 use Rattle.image.specs.declared.bringing.Brought.{Brought}
 use Rattle.image.specs.Images.{imageOf, recordOf}
 use Rattle.image.specs.Bringing.{inputOf}
-use Rattle.boundary.specs.declared.Started.{Started}
 use Rattle.boundary.specs.declared.ticking.ImageTicked.{ImageTicked}
-use Rattle.boundary.specs.Hosting.{startedImage, tickedImage, advancedOf, refusedImage, isAccepted, imageTickOf}
+use Rattle.boundary.specs.Hosting.{tickedImage, advancedOf, refusedImage, isAccepted, imageTickOf}
 use Rattle.boundary.specs.Lists.{imageListFrom, imageOpening}
 use Rattle.boundary.proofs.Lists.{accepted-of, ticked-of, kept-on, none-accepted, none-ticked, none-kept}
 
@@ -91,11 +89,6 @@ hosted m b told u = subst (Promised m b) (sym u) (either-promised m b _ refl (rw
 
 -- ---- over plain values, as the functions ask it
 
-pub advance-made : (r : Regulator) (b : Brought) {i : Input} {x : Ticked} {n : Image} → i ≡ inputOf b → x ≡ tickOf r i → n ≡ imageOf (x .next)
-    → _≡_ {A = ImageTicked} (record { refusal = x .reply .refusal; outputs = record { fields = x .reply .outputs }; next = n }) (advancedOf r b)
-unfolding advancedOf tickedImage
-advance-made r b p q u = rw (u, q, p)
-
 module _ (m : Image) (b : Brought) {x : FromImage} {t : ImageTicked} (e : x ≡ recordOf m) where
   pub advanced-made : x .taken ≡ true → t ≡ advancedOf (x .state) b → t ≡ imageTickOf m b
   unfolding imageTickOf
@@ -105,11 +98,6 @@ module _ (m : Image) (b : Brought) {x : FromImage} {t : ImageTicked} (e : x ≡ 
   unfolding imageTickOf
   refused-made n u = no _ _ _ _ (sym (ap (λ (q : FromImage). q .taken) e) ∙ n) u
 
-pub started-made : (list : List ℕ) (s : record-started.Started) {n i : ℕ} {m : Image} → repliedOf s ≡ startOf list → n ≡ numberOf (s .answer)
-    → i ≡ slotOf (s .answer) → m ≡ imageOf (s .state) → _≡_ {A = Started} (record { number = n; slot = i; image = m }) (startedImage (startOf list))
-unfolding startedImage
-started-made list s e p q r = rw (← e, p, q, r)
-
 -- number 0 is that of a list that is taken
 taken-of : (a : Answer) → numberOf a ≡ 0 → a ≡ Taken
 taken-of Taken p = refl
@@ -117,6 +105,9 @@ taken-of WrongLength p = absurd (omega arith)
 taken-of (OutOfRange i) p = absurd (omega arith)
 taken-of (TapOrder i) p = absurd (omega arith)
 
-pub started-lasts : (s : record-started.Started) {n : ℕ} {m : Image} → (s .answer ≡ Taken → withinOf (s .state) ≡ true) → n ≡ numberOf (s .answer)
-    → m ≡ imageOf (s .state) → n ≡ 0 → isAccepted m ≡ true
-started-lasts s h p q z = ap isAccepted q ∙ accepted-of (s .state) ∙ h (taken-of (s .answer) (sym p ∙ z))
+module _ (s : Started) {n : ℕ} (e : n ≡ numberOf (s .answer)) where
+  pub started-exactly : {l : List ℕ} → (s .answer ≡ Taken) ↔ Settings l → (n ≡ 0) ↔ Settings l
+  started-exactly h = ((λ z. h .0 (taken-of (s .answer) (sym e ∙ z))), (λ p. e ∙ ap numberOf (h .1 p)))
+
+  pub started-lasts : {m : Image} → (s .answer ≡ Taken → withinOf (s .state) ≡ true) → m ≡ imageOf (s .state) → n ≡ 0 → isAccepted m ≡ true
+  started-lasts h q z = ap isAccepted q ∙ accepted-of (s .state) ∙ h (taken-of (s .answer) (sym e ∙ z))

@@ -1,9 +1,8 @@
 -- Lists of ticks through the boundary: on the image of a record they are the record's own, and on any other image all refused.
 -- Assumes nothing.
-use mathlib.Core.Path.{_≡_, refl, sym, ap, _∙_, subst}
+use mathlib.Core.Path.{_≡_, refl, sym, ap}
 use mathlib.Core.Bool.{Bool, true, false}
 use mathlib.Core.List.{List, [], _∷_, map}
-use Prim.Native.Nat.{ℕ}
 use lib.Dec.{eqb}
 use Rattle.common.specs.Choice.{choose}
 use Rattle.common.proofs.Cases.{no}
@@ -15,7 +14,7 @@ use Rattle.command.specs.declared.Wait.{Wait}
 use Rattle.command.specs.declared.Wait.the-variants.{Idle, For}
 use Rattle.record.specs.declared.Regulator.{Regulator}
 use Rattle.record.specs.Limits.{withinOf}
-use Rattle.claim.specs.Claim.{Tick, All, Kept, restAfter}
+use Rattle.claim.specs.Claim.{Tick, All, Kept}
 use Rattle.regulator.specs.Ticks.{tickOf}
 use Rattle.regulator.specs.Lists.{seen, ticksFrom, heldFor, opening}
 use Rattle.regulator.proofs.Claim.{kept}
@@ -25,24 +24,23 @@ use Rattle.image.specs.declared.bringing.Brought.{Brought}
 use Rattle.image.specs.Images.{imageOf, recordOf}
 use Rattle.image.specs.Bringing.{inputOf}
 use Rattle.image.proofs.Whole.{back}
-use Rattle.boundary.specs.declared.ticking.ImageTicked.{ImageTicked}
 use Rattle.boundary.specs.Hosting.{tickedImage, advancedOf, refusedImage, isAccepted, imageTickOf}
-use Rattle.boundary.specs.Lists.{imageSeen, imageTicksFrom, imageListFrom, imageOpening}
+use Rattle.boundary.specs.Lists.{imageSeen, imageTicksFrom, imageRests, imageHeldFor, imageOpening}
 use Rattle.boundary.proofs.Refused.{Refused, refused-kept}
 
 -- the ticks of a list on m that opens as a call's does
 abbrev pub ticksOn : Image → List Brought → List Tick
-ticksOn m bs = imageTicksFrom (eqb (m .drive .kind) 0) m bs
+ticksOn m bs = imageTicksFrom (imageRests m) m bs
 
 -- ---- the image of a record
 
-low-of : (w : Wait) → choose (eqb (waitImage w .side) 1) (waitImage w .ticks) 0 ≡ heldFor Raise w
+low-of : (w : Wait) → imageHeldFor 1 (waitImage w) ≡ heldFor Raise w
 unfolding waitImage choose
 low-of Idle = refl
 low-of (For Raise n) = refl
 low-of (For Lower n) = refl
 
-high-of : (w : Wait) → choose (eqb (waitImage w .side) 2) (waitImage w .ticks) 0 ≡ heldFor Lower w
+high-of : (w : Wait) → imageHeldFor 2 (waitImage w) ≡ heldFor Lower w
 unfolding waitImage choose
 high-of Idle = refl
 high-of (For Raise n) = refl

@@ -1,4 +1,5 @@
 -- Lists of ticks through the boundary, as demand 3 speaks of them (crate `claim`): what a host sees of its images and outputs.
+use Prim.Native.Nat.{ℕ}
 use mathlib.Core.Bool.{Bool}
 use mathlib.Core.List.{List, [], _∷_}
 use lib.Dec.{eqb}
@@ -6,6 +7,7 @@ use Rattle.common.specs.Choice.{choose}
 use Rattle.ways.specs.declared.Direction.the-variants.{Raise, Lower}
 use Rattle.claim.specs.Claim.{Tick, Opening, restAfter}
 use Rattle.regulator.specs.Lists.{delayIn}
+use Rattle.coding.specs.declared.WaitImage.{WaitImage}
 use Rattle.image.specs.declared.Image.{Image}
 use Rattle.image.specs.declared.bringing.Brought.{Brought}
 use Rattle.image.specs.Images.{recordOf}
@@ -33,18 +35,24 @@ imageTicksFrom rest m [] = []
 imageTicksFrom rest m (b ∷ bs) =
     imageSeen rest m b (imageTickOf m b) ∷ imageTicksFrom (restAfter (imageTickOf m b .outputs .fields)) (imageTickOf m b .next) bs
 
--- the list that a call opens: its own tick, which got m and b and gave t, and then the ticks of `later`. *At rest*, "for the first tick,
--- the record handed in holds no asked command and no move": the image's drive is of kind 0.
-abbrev pub imageListFrom : Image → Brought → ImageTicked → List Brought → List Tick
-imageListFrom m b t later =
-    imageSeen (eqb (m .drive .kind) 0) m b t ∷ imageTicksFrom (restAfter (t .outputs .fields)) (t .next) later
+-- *at rest*, "for the first tick, the record handed in holds no asked command and no move": the image's drive is of kind 0
+abbrev pub imageRests : Image → Bool
+imageRests m = eqb (m .drive .kind) 0
 
--- what a list on the image m begins on. Its wait is to the low side with 1, to the high side with 2.
+-- the list that a call opens: its own tick, which got m and b and gave t, and then the ticks of `later`
+abbrev pub imageListFrom : Image → Brought → ImageTicked → List Brought → List Tick
+imageListFrom m b t later = imageSeen (imageRests m) m b t ∷ imageTicksFrom (restAfter (t .outputs .fields)) (t .next) later
+
+-- the ticks that a wait has lasted to a side, 1 for low and 2 for high: 0 where it is to the other
+abbrev pub imageHeldFor : ℕ → WaitImage → ℕ
+imageHeldFor side w = choose (eqb (w .side) side) (w .ticks) 0
+
+-- what a list on the image m begins on
 abbrev pub imageOpening : Image → Opening
 imageOpening m =
     record {
       within = isAccepted m;
       settings = m .settings;
-      lowWait = choose (eqb (m .wait .side) 1) (m .wait .ticks) 0;
-      highWait = choose (eqb (m .wait .side) 2) (m .wait .ticks) 0;
+      lowWait = imageHeldFor 1 (m .wait);
+      highWait = imageHeldFor 2 (m .wait);
     }

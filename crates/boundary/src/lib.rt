@@ -3,7 +3,9 @@
 ghost use mathlib.Core.Path.{_≡_};
 ghost use mathlib.Core.Bool.{true, false};
 ghost use mathlib.Core.List.{List};
+ghost use mathlib.Core.Logic.{_↔_};
 ghost use Rattle.common.specs.Choice.{choose};
+ghost use Rattle.sheet.specs.Settings.{Settings};
 ghost use Rattle.record.specs.Starting.{startOf};
 ghost use Rattle.claim.specs.Claim.{Kept};
 ghost use Rattle.boundary.specs.Hosting.{startedImage, refusedImage, isAccepted, imageTickOf, foundOf};
@@ -25,10 +27,12 @@ pub struct Started {
     pub image: Image,
 }
 
-// Starts a regulator from a setting sheet of any length; the list is left as it was. With number 0 the image is accepted.
+// Starts a regulator from a setting sheet of any length; the list is left as it was. The number is 0 exactly for a sheet within
+// its ranges and its order of taps, and then the image is accepted.
 #[no_mangle]
 pub extern "C" fn avr_start(list: &[u32]) -> Started
     ensures reply { λ r. ⌜ r ≡ startedImage (startOf (now (list .entry))) ⌝ }
+    ensures exactly { λ r. ⌜ ((r .number ≡ 0) ↔ Settings (now (list .entry))) ⌝ }
     ensures lasting { λ r. ⌜ (r .number ≡ 0 → isAccepted (r .image) ≡ true) ⌝ }
 {
     let s = record::starting::start(list);

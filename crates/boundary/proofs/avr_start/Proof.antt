@@ -1,5 +1,6 @@
 -- `boundary::avr_start` meets its contract, by what each call ensures. Assumes nothing.
-use Rattle.boundary.proofs.Hosted.{started-made, started-lasts}
+use Rattle.boundary.proofs.Hosted.{started-exactly, started-lasts}
+use Rattle.boundary.specs.Hosting.{startedImage}
 use borrow.Author.Needs.{needs}
 use Rattle.boundary.proofs.avr_start.Statement.{statement}
 use Rattle.boundary.proofs.avr_start.Tie as tie
@@ -17,7 +18,8 @@ image-of-requires : tie.Need-image-of-requires
 image-of-requires c κs = search needs
 
 returns : tie.Need-returns
-returns c = (search (needs, started-made), search (needs, started-lasts))
+unfolding startedImage
+returns c = (cc, (search (needs, started-exactly), search (needs, started-lasts)))
 
 pub avr-start-spec : {M : Type 1} → statement M
 avr-start-spec =

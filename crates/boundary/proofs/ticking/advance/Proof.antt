@@ -1,5 +1,5 @@
 -- `boundary::ticking::advance` meets its contract, by what each call ensures. Assumes nothing.
-use Rattle.boundary.proofs.Hosted.{advance-made}
+use Rattle.boundary.specs.Hosting.{advancedOf, tickedImage}
 use borrow.Author.Needs.{needs}
 use Rattle.boundary.proofs.ticking.advance.Statement.{statement}
 use Rattle.boundary.proofs.ticking.advance.Tie as tie
@@ -14,7 +14,8 @@ image-of-requires : tie.Need-image-of-requires
 image-of-requires c κs = search needs
 
 returns : tie.Need-returns
-returns c = search (needs, advance-made)
+unfolding advancedOf tickedImage
+returns c = cc
 
 pub advance-spec : {M : Type 1} → statement M
 advance-spec = tie.close (tie.spec input-of-requires tick-requires image-of-requires returns)
