@@ -3,7 +3,6 @@
 use mathlib.Core.Path.{_≡_, refl, sym, ap}
 use mathlib.Core.Bool.{Bool, true, false}
 use mathlib.Core.List.{List, [], _∷_, map}
-use lib.Dec.{eqb}
 use Rattle.common.specs.Choice.{choose}
 use Rattle.common.proofs.Cases.{no}
 use Rattle.ways.specs.declared.Direction.the-variants.{Raise, Lower}
@@ -16,7 +15,7 @@ use Rattle.record.specs.declared.Regulator.{Regulator}
 use Rattle.record.specs.Limits.{withinOf}
 use Rattle.claim.specs.Claim.{Tick, All, Kept}
 use Rattle.regulator.specs.Ticks.{tickOf}
-use Rattle.regulator.specs.Lists.{seen, ticksFrom, heldFor, opening}
+use Rattle.regulator.specs.Lists.{seen, ticksFrom, opening}
 use Rattle.regulator.proofs.Claim.{kept}
 use Rattle.coding.specs.Numbers.{driveImage, waitImage}
 use Rattle.image.specs.declared.Image.{Image}
@@ -25,7 +24,7 @@ use Rattle.image.specs.Images.{imageOf, recordOf}
 use Rattle.image.specs.Bringing.{inputOf}
 use Rattle.image.proofs.Whole.{back}
 use Rattle.boundary.specs.Hosting.{tickedImage, advancedOf, refusedImage, isAccepted, imageTickOf}
-use Rattle.boundary.specs.Lists.{imageSeen, imageTicksFrom, imageRests, imageHeldFor, imageOpening}
+use Rattle.boundary.specs.Lists.{imageSeen, imageTicksFrom, imageRests, imageOpening}
 use Rattle.boundary.proofs.Refused.{Refused, refused-kept}
 
 -- the ticks of a list on m that opens as a call's does
@@ -33,25 +32,6 @@ abbrev pub ticksOn : Image → List Brought → List Tick
 ticksOn m bs = imageTicksFrom (imageRests m) m bs
 
 -- ---- the image of a record
-
-low-of : (w : Wait) → imageHeldFor 1 (waitImage w) ≡ heldFor Raise w
-unfolding waitImage choose
-low-of Idle = refl
-low-of (For Raise n) = refl
-low-of (For Lower n) = refl
-
-high-of : (w : Wait) → imageHeldFor 2 (waitImage w) ≡ heldFor Lower w
-unfolding waitImage choose
-high-of Idle = refl
-high-of (For Raise n) = refl
-high-of (For Lower n) = refl
-
-rest-of : (d : Drive) → eqb (driveImage d .kind) 0 ≡ restsOf d
-unfolding driveImage
-rest-of Resting = refl
-rest-of (Asked d n) = refl
-rest-of (Moving d n true) = refl
-rest-of (Moving d n false) = refl
 
 module _ (r : Regulator) where
   pub accepted-of : isAccepted (imageOf r) ≡ withinOf r
@@ -62,9 +42,28 @@ module _ (r : Regulator) where
   unfolding imageTickOf advancedOf choose
   ticked-of b = rw (back r)
 
+  rest-of : (d : Drive) → r .drive ≡ d → imageRests (imageOf r) ≡ restsOf (r .drive)
+  unfolding imageOf driveImage
+  rest-of Resting e = rw e
+  rest-of (Asked d n) e = rw e
+  rest-of (Moving d n true) e = rw e
+  rest-of (Moving d n false) e = rw e
+
+  low-of : (w : Wait) → r .wait ≡ w → imageOpening (imageOf r) .lowWait ≡ opening r .lowWait
+  unfolding imageOf waitImage choose
+  low-of Idle e = rw e
+  low-of (For Raise n) e = rw e
+  low-of (For Lower n) e = rw e
+
+  high-of : (w : Wait) → r .wait ≡ w → imageOpening (imageOf r) .highWait ≡ opening r .highWait
+  unfolding imageOf waitImage choose
+  high-of Idle e = rw e
+  high-of (For Raise n) e = rw e
+  high-of (For Lower n) e = rw e
+
   opening-of : imageOpening (imageOf r) ≡ opening r
   unfolding imageOf
-  opening-of = rw (accepted-of, low-of (r .wait), high-of (r .wait))
+  opening-of = rw (accepted-of, low-of _ refl, high-of _ refl)
 
   seen-of : (rest : Bool) (b : Brought) → imageSeen rest (imageOf r) b (tickedImage (tickOf r (inputOf b))) ≡ seen rest r (inputOf b) (tickOf r (inputOf b))
   unfolding imageOf inputOf tickedImage
@@ -79,7 +78,7 @@ ticks-of rest r (b ∷ bs) =
 
 pub kept-on : (r : Regulator) (bs : List Brought) → Kept (imageOpening (imageOf r)) (ticksOn (imageOf r) bs)
 unfolding imageOf
-kept-on r bs = rw (opening-of r, rest-of (r .drive), ticks-of _ r bs) (kept r (map inputOf bs))
+kept-on r bs = rw (opening-of r, rest-of r _ refl, ticks-of _ r bs) (kept r (map inputOf bs))
 
 -- ---- an image of no record
 

@@ -115,13 +115,20 @@ module _ {M : Type 1} (𝓤 : URA M) (H : Heap 𝓤) (A : Atoms 𝓤) (W : Given
   abbrev Post : Val → SProp 𝓤
   Post = walkOf 𝓤 H A f.ended stayed (f.clauses 𝓤 H A at-mem run) .post (((κ, (κ′, (κ″, tt))), (q, (q′, (q″, tt))), tt, a, at), tt)
 
+  -- what is promised, of the number, the image and the outputs that x has
+  abbrev Ensured : ImageTicked → SProp 𝓤
+  Ensured x = f.clauses 𝓤 H A at-mem run (κ, (κ′, (κ″, tt))) a .ensures tt (x .refusal) (atExit f.ended (κ, (κ′, (κ″, tt))) a (x .next, (tt, (x .outputs, tt))))
+
+  keeps : (x : ImageTicked) → Promised h t x → ent 𝓤 (emp 𝓤) (Ensured x)
+  keeps x e = beside 𝓤 _ (e .0) (beside 𝓤 _ (e .1 .0) (beside 𝓤 _ (e .1 .1 .0) (beside 𝓤 _ (e .1 .1 .1 .0) (factI 𝓤 _ (emp 𝓤) (e .1 .1 .1 .1)))))
+
   exits : (x : ImageTicked) (v : Val) → Promised h t x → Is X.the-row x (v ∷ []) → ent 𝓤 (⋆ 𝓤 H A (‵ (fobs γ (R.the-row .coded .code (x .next))) ∷ ‵ (fbor κ (Body (mem R.the-row) b o γ)) ∷ ‵ (flft κ q) ∷ ‵ (flft κ′ q′) ∷ ‵ (fres γ′ (T.the-row .coded .code t)) ∷ ‵ (fshr-bor κ′ (λ s. partAt T.the-row s t b′ o′))
       ∷ ‵ (fobs γ″ (O.the-row .coded .code (x .outputs))) ∷ ‵ (fbor κ″ (Body (mem O.the-row) b″ o″ γ″)) ∷ ‵ (flft κ″ q″) ∷ [])) (Post (vint w32 (x .refusal)))
   exits x v e is =
       qed W (‵ (fobs γ (R.the-row .coded .code (x .next))) ∷ ‵ (fbor κ (Body (mem R.the-row) b o γ)) ∷ ‵ (flft κ q) ∷ ‵ (flft κ′ q′) ∷ ‵ (fres γ′ (T.the-row .coded .code t)) ∷ ‵ (fshr-bor κ′ (λ s. partAt T.the-row s t b′ o′))
       ∷ ‵ (fobs γ″ (O.the-row .coded .code (x .outputs))) ∷ ‵ (fbor κ″ (Body (mem O.the-row) b″ o″ γ″)) ∷ ‵ (flft κ″ q″) ∷ []) ∵
       suffices ! _ (ends-at 𝓤 H A f.ended stayed (f.clauses 𝓤 H A at-mem run) W (((κ, (κ′, (κ″, tt))), (q, (q′, (q″, tt))), tt, a, at), tt) (vint w32 (x .refusal)) (x .refusal) (x .next, (tt, (x .outputs, tt))) (tt, (tt, (tt, tt)))) $
-      says-all ! _ (beside 𝓤 _ (e .0) (beside 𝓤 _ (e .1 .0) (beside 𝓤 _ (e .1 .1 .0) (beside 𝓤 _ (e .1 .1 .1 .0) (factI 𝓤 _ (emp 𝓤) (e .1 .1 .1 .1)))))) $ nothing ! $ move ! (9 ∷ 0 ∷ []) $ join ! $ move ! (4 ∷ 0 ∷ []) $ join ! $ move ! (3 ∷ 0 ∷ []) $ join ! $ frame ! $
+      says-all ! (Ensured x) (keeps x e) $ nothing ! $ move ! (9 ∷ 0 ∷ []) $ join ! $ move ! (4 ∷ 0 ∷ []) $ join ! $ move ! (3 ∷ 0 ∷ []) $ join ! $ frame ! $
       -- [obs, the borrow, of w; res, the borrow, of t; obs, the borrow, of out]
       move ! (4 ∷ 5 ∷ []) $ feqI ! (List Val) (vptr b″ o″ ∷ []) (vptr b″ o″ ∷ []) refl $ fjoin3 ! $ nothing ! $ move ! (1 ∷ 0 ∷ []) $ fjoin ! $
       move ! (3 ∷ 4 ∷ []) $ feqI ! (List Val) (vptr b′ o′ ∷ []) (vptr b′ o′ ∷ []) refl $ fjoin3 ! $ fjoin ! $

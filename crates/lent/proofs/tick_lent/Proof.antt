@@ -104,11 +104,19 @@ module _ {M : Type 1} (𝓤 : URA M) (H : Heap 𝓤) (A : Atoms 𝓤) (W : Given
   abbrev Post : Val → SProp 𝓤
   Post = walkOf 𝓤 H A f.ended stayed (f.clauses 𝓤 H A at-mem run) .post (((κ, tt), (q, tt), tt, a, at), tt)
 
+  -- what is promised, of the reply and the record that x has
+  abbrev Ensured : Ticked → SProp 𝓤
+  Ensured x = f.clauses 𝓤 H A at-mem run (κ, tt) a .ensures tt (x .reply) (atExit f.ended (κ, tt) a (x .next, (tt, tt)))
+
+  keeps : (x : Ticked) → x ≡ tickOf h t → ent 𝓤 (emp 𝓤) (Ensured x)
+  keeps x e =
+      beside 𝓤 _ (ap (λ (y : Ticked). y .reply) e, ap (λ (y : Ticked). y .next) e) (beside 𝓤 _ (promised h t e .1 .0) (factI 𝓤 _ (emp 𝓤) (promised h t e .1 .1)))
+
   exits : (x : Ticked) (v : Val) → x ≡ tickOf h t → Is T.the-row t (tval t ∷ []) → Is X.the-row x (v ∷ []) → ent 𝓤 (sep 𝓤 (A .obs γ (R.the-row .coded .code (x .next))) (sep 𝓤 (A .bor κ (Body (mem R.the-row) b o γ)) (A .lft κ q))) (Post (LL.val O.the-type O′.the-laws (x .reply)))
   exits x v e gt is =
       qed W (‵ (fobs γ (R.the-row .coded .code (x .next))) ∷ ‵ (fbor κ (Body (mem R.the-row) b o γ)) ∷ ‵ (flft κ q) ∷ []) ∵
       suffices ! _ (ends-at 𝓤 H A f.ended stayed (f.clauses 𝓤 H A at-mem run) W (((κ, tt), (q, tt), tt, a, at), tt) (LL.val O.the-type O′.the-laws (x .reply)) (x .reply) (x .next, (tt, tt)) (tt, (tt, tt))) $
-      says-all ! _ (beside 𝓤 _ (ap (λ (y : Ticked). y .reply) e, ap (λ (y : Ticked). y .next) e) (beside 𝓤 _ (promised h t e .1 .0) (factI 𝓤 _ (emp 𝓤) (promised h t e .1 .1)))) $ nothing ! $ move ! (3 ∷ 0 ∷ []) $ join ! $
+      says-all ! (Ensured x) (keeps x e) $ nothing ! $ move ! (3 ∷ 0 ∷ []) $ join ! $
       frame ! $ feqI ! (List Val) (vptr b o ∷ []) (vptr b o ∷ []) refl $ fjoin3 ! $ nothing ! $ owned ! T.the-row (Is T.the-row) (LL.makes T.the-type T′.the-plain 𝓤 H A) t _ gt $ fjoin ! $ move ! (1 ∷ 0 ∷ []) $ fjoin ! $
       owned ! O.the-row (Is O.the-row) (LL.makes O.the-type O′.the-plain 𝓤 H A) (x .reply) _ (is-reply x v is) $ move ! (1 ∷ 0 ∷ []) $ done !
 
