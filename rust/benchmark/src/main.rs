@@ -3,11 +3,12 @@
 
 use std::time::Instant;
 
-use hosttest::convert::{brought, image_of};
-use hosttest::{tick, tick_by_value, Brought, Image, Outputs};
+use comparison::convert::{brought, image_of};
+use library::{tick, tick_by_value, Brought, Image, Outputs, FIELDS};
 use reference::dice::Dice;
 use reference::input::Input;
 use reference::record::Record;
+use reference::recording::{tick_from_bytes, TICK_BYTES};
 
 const TICKS: usize = 20_000;
 
@@ -20,19 +21,15 @@ fn scene() -> (Record, Vec<Input>) {
     let list = reference::recording::sheet_from_bytes(&std::fs::read(&sheet).expect("the sheet"));
     let bytes = std::fs::read(&recording).expect("the recording");
     std::fs::remove_dir_all(&folder).ok();
-    let record = reference::sheet::check(&list).expect("a sheet that is taken");
-    let inputs = bytes
-        .chunks_exact(36)
-        .map(|b| {
-            reference::recording::tick_from_bytes(b.try_into().expect("36 bytes")).expect("a tick")
-        })
-        .collect();
+    let record = Record::start(&list).expect("a sheet that is taken");
+    let input = |tick: &[u8]| tick_from_bytes(tick.try_into().expect("a whole tick")).expect("good qualities");
+    let inputs = bytes.chunks_exact(TICK_BYTES).map(input).collect();
     (record, inputs)
 }
 
 fn lent(start: &Image, ticks: &[Brought], runs: u32) -> u64 {
     let mut sum = 0;
-    let mut outputs = Outputs { fields: [0; 28] };
+    let mut outputs = Outputs { fields: [0; FIELDS] };
     for _ in 0..runs {
         let mut image = *start;
         for brought in ticks {
@@ -73,10 +70,7 @@ fn second(start: &Record, ticks: &[Input], runs: u32) -> u64 {
 fn timed(runs: u32, way: impl Fn(u32) -> u64) -> (f64, u64) {
     let from = Instant::now();
     let sum = way(runs);
-    (
-        from.elapsed().as_nanos() as f64 / (f64::from(runs) * TICKS as f64),
-        sum,
-    )
+    (from.elapsed().as_nanos() as f64 / (f64::from(runs) * TICKS as f64), sum)
 }
 
 fn main() {
@@ -97,21 +91,10 @@ fn main() {
             let (c, z) = timed(runs, |n| second(&record, &inputs, n));
             assert!(x == y && y == z, "the three ways differ");
             println!("ticks: {} a way", u64::from(runs) * TICKS as u64);
-            for (name, ns) in [
-                ("proved, lent", a),
-                ("proved, by value", b),
-                ("second program", c),
-            ] {
-                println!(
-                    "{name:18} {ns:7.1} ns a tick, {:9.0} ticks a second",
-                    1e9 / ns
-                );
+            for (name, ns) in [("proved, lent", a), ("proved, by value", b), ("second program", c)] {
+                println!("{name:18} {ns:7.1} ns a tick, {:9.0} ticks a second", 1e9 / ns);
             }
-            println!(
-                "ratio, lent to second program: {:.2}; by value: {:.2}",
-                a / c,
-                b / c
-            );
+            println!("ratio, lent to second program: {:.2}; by value: {:.2}", a / c, b / c);
         }
     }
 }

@@ -1,11 +1,10 @@
 //! Between the second program's types and the boundary's.
 
+use library::{Brought, DriveImage, Image, Sample, WaitImage, GOOD, HELD, INVALID, ORGANS};
 use reference::dice::Dice;
 use reference::input::Input;
 use reference::reading::Reading;
 use reference::record::{Direction, Drive, Fault, Organ, Record, Side, Wait};
-
-use crate::{Brought, DriveImage, Image, Sample, WaitImage};
 
 /// The image of a record.
 pub fn image_of(record: &Record) -> Image {
@@ -40,17 +39,9 @@ fn drive_image(drive: Drive) -> DriveImage {
     let (kind, direction, ticks) = match drive {
         Drive::Rest => (0, Direction::Raise, 0),
         Drive::Asked { direction, age } => (1, direction, age),
-        Drive::Moving {
-            direction,
-            length,
-            commanded,
-        } => (if commanded { 2 } else { 3 }, direction, length),
+        Drive::Moving { direction, length, commanded } => (if commanded { 2 } else { 3 }, direction, length),
     };
-    DriveImage {
-        kind,
-        direction: u32::from(direction == Direction::Lower),
-        ticks,
-    }
+    DriveImage { kind, direction: u32::from(direction == Direction::Lower), ticks }
 }
 
 fn way(direction: Option<Direction>) -> u32 {
@@ -63,7 +54,7 @@ fn way(direction: Option<Direction>) -> u32 {
 
 /// The record of an image; nothing if it is no record's.
 pub fn record_of(image: &Image) -> Option<Record> {
-    let mut organs = [Organ::default(); 7];
+    let mut organs = [Organ::default(); ORGANS];
     for (i, organ) in organs.iter_mut().enumerate() {
         organ.marked = flag(image.organ_marks[i])?;
         organ.count = image.organ_counts[i];
@@ -101,15 +92,8 @@ fn drive_of(image: DriveImage) -> Option<Drive> {
     let ticks = image.ticks;
     match image.kind {
         0 if image.direction == 0 && ticks == 0 => Some(Drive::Rest),
-        1 => Some(Drive::Asked {
-            direction,
-            age: ticks,
-        }),
-        2 | 3 => Some(Drive::Moving {
-            direction,
-            length: ticks,
-            commanded: image.kind == 2,
-        }),
+        1 => Some(Drive::Asked { direction, age: ticks }),
+        2 | 3 => Some(Drive::Moving { direction, length: ticks, commanded: image.kind == 2 }),
         _ => None,
     }
 }
@@ -152,21 +136,15 @@ fn side_of(direction: Direction) -> Side {
 
 /// What a tick brings. An Invalid reading has any other quality and any value.
 pub fn brought(input: &Input, dice: &mut Dice) -> Brought {
-    let mut sample = |reading: Reading| match reading {
-        Reading::Good(value) => Sample { quality: 0, value },
-        Reading::Held(value) => Sample { quality: 1, value },
-        Reading::Invalid => Sample {
-            quality: (dice.bits() >> dice.between(0, 31)).max(2),
-            value: f32::from_bits(dice.bits()),
-        },
+    let sample = |reading: Reading| match reading {
+        Reading::Good(value) => Sample { quality: GOOD, value },
+        Reading::Held(value) => Sample { quality: HELD, value },
+        Reading::Invalid => {
+            Sample { quality: (dice.bits() >> dice.between(0, 31)).max(INVALID), value: f32::from_bits(dice.bits()) }
+        }
     };
     Brought {
-        u_ab: sample(input.u_ab),
-        u0: sample(input.u_zero),
-        u2: sample(input.u_negative),
-        i_high: sample(input.i_high),
-        i_bus: sample(input.i_bus),
-        i_coupler: sample(input.i_coupler),
+        readings: [input.u_ab, input.u_zero, input.u_negative, input.i_high, input.i_bus, input.i_coupler].map(sample),
         contacts: input.contacts.0,
         bcd: input.bcd,
         sensor: input.sensor,

@@ -1,27 +1,26 @@
 //! Images that a careless or hostile host might lend.
 
+use library::{DriveImage, Image, WaitImage, SLOTS, WORDS};
 use reference::dice::Dice;
-use reference::sheet::{slot, SLOTS};
-
-use crate::{Image, WORDS};
-
-/// Where the numbers after the settings begin.
-const MARKS: u32 = SLOTS as u32;
+use reference::record::{LONGEST_WAIT, MOST_OPERATIONS};
+use reference::sheet::{slot, Settings};
 
 /// Some of the image's numbers changed: mostly to other records, within their limits and outside.
 pub fn tampered(dice: &mut Dice, image: &Image) -> Image {
+    let (settings, all) = (SLOTS as u32, WORDS as u32);
     let mut words = image.words();
     for _ in 0..dice.between(1, 4) {
         let at = match dice.one_in(4) {
-            true => dice.between(0, MARKS - 1),
-            false => dice.between(MARKS, WORDS as u32 - 1),
+            true => dice.between(0, settings - 1),
+            false => dice.between(settings, all - 1),
         } as usize;
         words[at] = number(dice, image, words[at]);
     }
+    let mut changed = Image::from_words(words);
     if dice.one_in(2) {
-        drive_and_wait(dice, image, &mut words);
+        drive_and_wait(dice, &image.settings, &mut changed);
     }
-    Image::from_words(&words)
+    changed
 }
 
 /// A number near the old one, small, near one of the image's settings, or any.
@@ -30,53 +29,48 @@ fn number(dice: &mut Dice, image: &Image, old: u32) -> u32 {
     match dice.between(0, 5) {
         0 | 1 => dice.between(0, 5),
         2 => old.wrapping_add(near).wrapping_sub(1),
-        3 => dice
-            .pick(&image.settings)
-            .wrapping_add(near)
-            .wrapping_sub(1),
-        4 => dice.pick(&[35_999, 36_000, 999_999, 1_000_000, u32::MAX]),
+        3 => dice.pick(&image.settings).wrapping_add(near).wrapping_sub(1),
+        4 => dice.pick(&[LONGEST_WAIT, LONGEST_WAIT + 1, MOST_OPERATIONS, MOST_OPERATIONS + 1, u32::MAX]),
         _ => dice.bits() >> dice.between(0, 31),
     }
 }
 
 /// A drive, a fault and a wait of their own, each about its limit.
-fn drive_and_wait(dice: &mut Dice, image: &Image, words: &mut [u32; WORDS]) {
-    let kind = dice.between(0, 3);
-    let bound = match kind {
-        0 => 0,
-        1 => image.settings[slot::T5],
-        _ => image.settings[slot::T4],
-    };
-    words[77] = kind;
-    words[78] = if kind == 0 { 0 } else { dice.between(0, 1) };
-    words[79] = match kind {
-        0 => 0,
-        _ => dice.pick(&[0, 1, bound.wrapping_sub(1), bound, bound.wrapping_add(1)]),
-    };
-    let fault = if kind == 0 || dice.one_in(4) {
-        dice.between(0, 4)
-    } else {
-        0
-    };
-    let t8 = image.settings[slot::T8];
-    words[80] = fault;
-    words[81] = match fault {
+fn drive_and_wait(dice: &mut Dice, settings: &Settings, image: &mut Image) {
+    image.drive = drive(dice, settings);
+    let rests = image.drive.kind == 0;
+    let fault = if rests || dice.one_in(4) { dice.between(0, 4) } else { 0 };
+    let t8 = settings[slot::T8];
+    image.fault = fault;
+    image.fault_age = match fault {
         0 if !dice.one_in(8) => 0,
         _ => dice.pick(&[0, 1, t8.wrapping_sub(1), t8, t8.wrapping_add(1)]),
     };
     let side = dice.between(0, 2);
-    words[82] = side;
-    words[83] = match side {
+    let ticks = match side {
         0 => 0,
-        _ if kind == 0 => dice.pick(&[0, 1, 19, 20, 35_998, 35_999, 36_000]),
+        _ if rests => dice.pick(&[0, 1, 19, 20, LONGEST_WAIT - 1, LONGEST_WAIT, LONGEST_WAIT + 1]),
         _ => dice.pick(&[0, 0, 1]),
     };
-    words[84] = dice.between(0, 2);
-    words[85] = dice.between(0, 2);
+    image.wait = WaitImage { side, ticks };
+    image.repeat = dice.between(0, 2);
+    image.last = dice.between(0, 2);
+}
+
+fn drive(dice: &mut Dice, settings: &Settings) -> DriveImage {
+    let kind = dice.between(0, 3);
+    let bound = match kind {
+        0 => return DriveImage { kind, direction: 0, ticks: 0 },
+        1 => settings[slot::T5],
+        _ => settings[slot::T4],
+    };
+    let direction = dice.between(0, 1);
+    let ticks = dice.pick(&[0, 1, bound.wrapping_sub(1), bound, bound.wrapping_add(1)]);
+    DriveImage { kind, direction, ticks }
 }
 
 /// Numbers with no thought at all.
 pub fn senseless(dice: &mut Dice) -> Image {
     let shift = dice.between(0, 31);
-    Image::from_words(&std::array::from_fn(|_| dice.bits() >> shift))
+    Image::from_words(std::array::from_fn(|_| dice.bits() >> shift))
 }

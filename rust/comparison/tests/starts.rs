@@ -1,24 +1,20 @@
 //! `avr_start` against the second program's check of a list.
 
-use hosttest::convert::image_of;
-use hosttest::{start, Started};
+use comparison::convert::image_of;
+use library::{start, Started};
 use reference::dice::Dice;
 use reference::make_sheet;
 use reference::record::Record;
-use reference::sheet::{check, slot, RANGES, SLOTS};
+use reference::sheet::{slot, RANGES, SLOTS};
 
 const LISTS: usize = 200_000;
 
 fn expected(list: &[u32]) -> Started {
-    let (number, slot, record) = match check(list) {
+    let (number, slot, record) = match Record::start(list) {
         Ok(record) => (0, 0, record),
         Err(refusal) => (refusal.number, refusal.slot, Record::zeros()),
     };
-    Started {
-        number,
-        slot,
-        image: image_of(&record),
-    }
+    Started { number, slot, image: image_of(&record) }
 }
 
 /// A sheet with up to three slots changed, a few near the ends of their ranges.

@@ -1,8 +1,8 @@
 //! `avr_tick` against the second program, tick by tick: the answer, all outputs and the whole next record.
 
-use hosttest::convert::{brought, image_of, record_of};
-use hosttest::hostile::{senseless, tampered};
-use hosttest::{start, tick, tick_by_value, Image, Outputs, Ticked, FIELDS};
+use comparison::convert::{brought, image_of, record_of};
+use comparison::hostile::{senseless, tampered};
+use library::{start, tick, tick_by_value, Image, Outputs, Ticked, FIELDS};
 use reference::dice::Dice;
 use reference::input::Input;
 use reference::scene::Scene;
@@ -20,16 +20,10 @@ struct Both {
 /// One tick of an image by both programs.
 fn compare(image: &Image, input: &Input, dice: &mut Dice, at: &str) -> Both {
     let mut lent = *image;
-    let mut outputs = Outputs {
-        fields: [dice.bits(); FIELDS],
-    };
+    let mut outputs = Outputs { fields: [dice.bits(); FIELDS] };
     let given = brought(input, dice);
     let answer = tick(&mut lent, &given, &mut outputs);
-    let by_value = Ticked {
-        refusal: answer,
-        outputs,
-        next: lent,
-    };
+    let by_value = Ticked { refusal: answer, outputs, next: lent };
     assert_eq!(tick_by_value(*image, given), by_value, "{at}: by value");
     let (refusal, fields, next) = match record_of(image) {
         Some(record) => {
@@ -39,10 +33,7 @@ fn compare(image: &Image, input: &Input, dice: &mut Dice, at: &str) -> Both {
         None => (4, [0; FIELDS], *image),
     };
     assert_eq!(answer, refusal, "{at}: answer\n{image:?}\n{input:?}");
-    assert_eq!(
-        outputs.fields, fields,
-        "{at}: outputs\n{image:?}\n{input:?}"
-    );
+    assert_eq!(outputs.fields, fields, "{at}: outputs\n{image:?}\n{input:?}");
     assert_eq!(lent, next, "{at}: next record\n{image:?}\n{input:?}");
     Both { answer, next }
 }
@@ -70,9 +61,7 @@ fn run(seed: u64, dice: &mut Dice, seen: &mut Seen) {
     let started = start(&scene.record.settings);
     assert_eq!(started.number, 0, "seed {seed}");
     let mut image = started.image;
-    let mut outputs = Outputs {
-        fields: [0; FIELDS],
-    };
+    let mut outputs = Outputs { fields: [0; FIELDS] };
     for t in 0..TICKS {
         let before = outputs;
         let (input, ticked) = scene.next_tick();
@@ -138,26 +127,11 @@ fn one_number_changed() {
         let (input, ticked) = scene.next_tick();
         let words = image_of(&ticked.next).words();
         for at in 0..words.len() {
-            for value in [
-                0,
-                1,
-                2,
-                3,
-                4,
-                5,
-                words[at].wrapping_add(1),
-                words[at].wrapping_sub(1),
-                u32::MAX,
-            ] {
+            for value in [0, 1, 2, 3, 4, 5, words[at].wrapping_add(1), words[at].wrapping_sub(1), u32::MAX] {
                 let mut changed = words;
                 changed[at] = value;
-                let image = Image::from_words(&changed);
-                compare(
-                    &image,
-                    &input,
-                    &mut dice,
-                    &format!("seed {seed}, word {at} = {value}"),
-                );
+                let image = Image::from_words(changed);
+                compare(&image, &input, &mut dice, &format!("seed {seed}, word {at} = {value}"));
                 ticks += 1;
             }
         }

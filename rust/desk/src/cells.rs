@@ -1,7 +1,8 @@
 //! The cells of a scenario: readings, contacts, BCD lines, the sensor, and times.
 
+use library::{Sample, GOOD, HELD, INVALID};
+
 use crate::decimal;
-use crate::unit::{Sample, GOOD, HELD, INVALID};
 use crate::value::TICK_MS;
 
 /// `98.2`, `98.2 held`, `invalid`; `bits 0x7fc00000` for a float that has no number.

@@ -1,9 +1,10 @@
 //! The columns of a scenario, by the names in its first row.
 
+use library::Brought;
+
 use crate::cells;
 use crate::drive::{Nature, TEMPERS};
 use crate::inputs::{with, CONTACTS, READINGS, SWITCHING};
-use crate::unit::Brought;
 
 #[derive(Clone, Copy, Debug, PartialEq, Eq)]
 pub enum Column {

@@ -1,6 +1,7 @@
 //! What each subcommand does. All is made before anything is written.
 
-use crate::cli::Words;
+use library::{FIELDS, SLOTS};
+
 use crate::file::{Errors, File, Output};
 use crate::picture;
 use crate::play::{Player, Source};
@@ -11,7 +12,8 @@ use crate::scenario::{self, Scenario};
 use crate::sheet::{self, Sheet};
 use crate::show;
 use crate::table;
-use crate::unit::{self, Unit, FIELDS, SLOTS};
+use crate::unit::{self, Unit};
+use crate::words::Words;
 
 /// What a command prints: on standard output, and as notes on standard error.
 #[derive(Default)]

@@ -1,6 +1,6 @@
 //! The desk tool of the voltage regulator. The rules are the proved library's; nothing here decides for it.
 
-#![deny(unsafe_code)]
+#![forbid(unsafe_code)]
 
 pub mod band;
 pub mod cells;
@@ -28,6 +28,6 @@ pub mod sheet;
 pub mod show;
 pub mod svg;
 pub mod table;
-#[allow(unsafe_code)]
 pub mod unit;
 pub mod value;
+pub mod words;

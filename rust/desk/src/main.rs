@@ -5,5 +5,5 @@
 use std::process::ExitCode;
 
 fn main() -> ExitCode {
-    avr::cli::main(std::env::args_os().skip(1))
+    desk::cli::main(std::env::args_os().skip(1))
 }

@@ -1,7 +1,7 @@
 //! The names, units, words, defaults and ranges of the 63 slots, after the manual's table of settings (source document 002,
 //! table 2.2.1.2). The ranges only explain a refusal; whether a sheet is refused is the library's word. A test holds them to it.
 
-use crate::unit::SLOTS;
+use library::SLOTS;
 
 pub const MODULE: usize = 1;
 pub const COMPENSATION: usize = 3;

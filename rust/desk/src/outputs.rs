@@ -1,6 +1,6 @@
 //! The names of the 28 outputs.
 
-use crate::unit::FIELDS;
+use library::FIELDS;
 
 pub const RAISE: usize = 0;
 pub const LOWER: usize = 1;

@@ -1,9 +1,10 @@
 //! Panels: readings over time, with an axis on the left and names on the right.
 
+use library::{Sample, GOOD, INVALID};
+
 use crate::run::Signal;
 use crate::scale::{mark_text, TimeScale, ValueScale};
 use crate::svg::{short, Anchor, Area, Pen, Style, Svg, FAINT, GREY, INK};
-use crate::unit::{Sample, GOOD, INVALID};
 
 /// A reading that is drawn.
 pub struct Series<'a> {

@@ -1,12 +1,13 @@
 //! What each tick brings: a scenario, with its drive if it has one, or a recording.
 
+use library::{Brought, Sample, FIELDS, INVALID};
+
 use crate::cells::lines_of;
 use crate::columns::Column;
 use crate::drive::{Drive, Nature, Seen, Way};
 use crate::inputs::{is_on, with, RESET, SUPPLY_OFF, SWITCHING};
 use crate::outputs::{LOWER, RAISE, SUPPLY_TRIP};
 use crate::scenario::Scenario;
-use crate::unit::{Brought, Sample, FIELDS, INVALID};
 
 /// Where ticks come from.
 pub enum Source<'a> {

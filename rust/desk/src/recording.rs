@@ -1,8 +1,9 @@
 //! RECORDINGs: 36 bytes a tick.
 
+use library::{Brought, Sample};
+
 use crate::file::{Errors, File};
 use crate::inputs::READINGS;
-use crate::unit::{Brought, Sample};
 
 /// Bytes of a tick.
 pub const BYTES: usize = 36;

@@ -1,9 +1,11 @@
 //! Runs the unit over its ticks and keeps what changed.
 
+use library::{Brought, Sample, FIELDS, READINGS};
+
 use crate::file::Errors;
 use crate::play::Source;
 use crate::progress::Progress;
-use crate::unit::{Brought, Sample, Unit, FIELDS};
+use crate::unit::Unit;
 
 /// A signal: its value from a tick on, at each change. The first entry is tick 1.
 pub type Signal<T> = Vec<(u32, T)>;
@@ -12,7 +14,7 @@ pub type Signal<T> = Vec<(u32, T)>;
 #[derive(Default)]
 pub struct History {
     pub ticks: u32,
-    pub readings: [Signal<Sample>; 6],
+    pub readings: [Signal<Sample>; READINGS],
     pub contacts: Signal<u32>,
     pub outputs: [Signal<u32>; FIELDS],
 }

@@ -1,8 +1,10 @@
 //! Sheets: text to numbers, numbers to text, the binary file, and why a sheet is refused.
 
+use library::SLOTS;
+
 use crate::file::{Errors, File};
 use crate::names::{self, ABSENT, D_U, MODULE, N_L, N_POS, N_R, TABLE};
-use crate::unit::{self, Refusal, SLOTS};
+use crate::unit::{self, Refusal};
 use crate::value;
 
 /// Bytes of a whole SHEET.

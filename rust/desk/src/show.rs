@@ -1,9 +1,10 @@
 //! A recording as a scenario: a row where something changes.
 
+use library::Brought;
+
 use crate::cells;
 use crate::columns::{self, Column};
 use crate::inputs::{is_on, CONTACTS, READINGS};
-use crate::unit::Brought;
 
 pub fn to_csv(ticks: &[Brought]) -> String {
     let columns = used(ticks);

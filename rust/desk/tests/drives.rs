@@ -1,6 +1,6 @@
 //! The simulated drive.
 
-use avr::drive::{Drive, Nature, Seen, Temper, Way};
+use desk::drive::{Drive, Nature, Seen, Temper, Way};
 
 const RAISE: Seen = Seen { command: Some(Way::Raise), trip: false, reset: false };
 const LOWER: Seen = Seen { command: Some(Way::Lower), trip: false, reset: false };

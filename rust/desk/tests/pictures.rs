@@ -4,15 +4,16 @@ mod common;
 
 use std::time::Duration;
 
-use avr::band::bands;
-use avr::inputs::with;
-use avr::outputs::{HIGH, LOW};
-use avr::picture::picture;
-use avr::play::{Player, Source};
-use avr::progress::{line, Progress};
-use avr::unit::{start, Brought, Sample};
-use avr::{run, scenario, sheet};
 use common::{check_texts, defaults, file, Dice};
+use desk::band::bands;
+use desk::inputs::with;
+use desk::outputs::{HIGH, LOW};
+use desk::picture::picture;
+use desk::play::{Player, Source};
+use desk::progress::{line, Progress};
+use desk::unit::start;
+use desk::{run, scenario, sheet};
+use library::{Brought, Sample};
 
 /// A sheet in service with four different voltages to hold.
 fn four_voltages() -> Vec<u32> {

@@ -2,10 +2,10 @@
 
 mod common;
 
-use avr::play::{Player, Source};
-use avr::unit::{Brought, Sample, FIELDS};
-use avr::{cells, recording, scenario, show};
 use common::{bytes, file, Dice};
+use desk::play::{Player, Source};
+use desk::{cells, recording, scenario, show};
+use library::{Brought, Sample, FIELDS};
 
 fn ticks(text: &str) -> Vec<Brought> {
     let scenario = scenario::read(&file(text)).expect("a good scenario");

@@ -2,11 +2,12 @@
 
 mod common;
 
-use avr::names::{Kind, ABSENT, N_L, N_POS, N_R, TABLE};
-use avr::sheet::{self, explain, refusals};
-use avr::unit::{start, Refusal, SLOTS};
-use avr::{decimal, value};
 use common::{bytes, defaults, file, Dice};
+use desk::names::{Kind, ABSENT, N_L, N_POS, N_R, TABLE};
+use desk::sheet::{self, explain, refusals};
+use desk::unit::{start, Refusal};
+use desk::{decimal, value};
+use library::SLOTS;
 
 fn problems(text: &str) -> Vec<String> {
     sheet::read(&file(text)).expect_err("a bad sheet")
@@ -116,7 +117,7 @@ fn the_defaults_are_those_of_the_manual() {
 #[test]
 fn each_slot_has_a_name_of_its_own() {
     for (at, slot) in TABLE.iter().enumerate() {
-        assert_eq!(avr::names::find(slot.name), Some(at));
+        assert_eq!(desk::names::find(slot.name), Some(at));
         assert!(ABSENT.iter().all(|(name, _)| *name != slot.name));
         assert!(!slot.meaning.is_empty());
     }

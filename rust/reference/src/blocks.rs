@@ -1,7 +1,7 @@
 //! Rule 8: what is blocked.
 
 use crate::input::{bit, Contacts};
-use crate::record::{Direction, ORGANS};
+use crate::record::{Direction, CURRENT_ORGANS, ORGANS};
 use crate::sheet::{slot, Settings};
 use crate::tap::source;
 
@@ -60,17 +60,15 @@ pub fn judge(sight: &Sight) -> Blocks {
 
 fn automatic(sight: &Sight) -> bool {
     let settings = sight.settings;
-    let currents = settings[slot::CURRENT_ORGANS_PASS] == 0 && any(&sight.trips[..3]);
-    let voltages = settings[slot::VOLTAGE_ORGANS_PASS] == 0 && any(&sight.trips[3..]);
+    let currents = settings[slot::CURRENT_ORGANS_PASS] == 0 && any(&sight.trips[..CURRENT_ORGANS]);
+    let voltages = settings[slot::VOLTAGE_ORGANS_PASS] == 0 && any(&sight.trips[CURRENT_ORGANS..]);
     !sight.section || sight.voltage_missing || currents || voltages || tap_unknown(sight)
 }
 
 /// Tap 0 although a source is set and the end taps are to block.
 fn tap_unknown(sight: &Sight) -> bool {
     let settings = sight.settings;
-    settings[slot::BLOCK_AT_END_TAP] == 1
-        && settings[slot::TAP_SOURCE] != source::NOTHING
-        && sight.tap == 0
+    settings[slot::BLOCK_AT_END_TAP] == 1 && settings[slot::TAP_SOURCE] != source::NOTHING && sight.tap == 0
 }
 
 fn manual(sight: &Sight) -> bool {

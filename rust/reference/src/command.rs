@@ -17,20 +17,10 @@ pub struct Decision {
 }
 
 /// Rule 9. `rests` says that the drive still rests after rule 7.
-pub fn decide(
-    record: &Record,
-    rests: bool,
-    contacts: Contacts,
-    voltage: &Voltage,
-    blocks: &Blocks,
-) -> Decision {
+pub fn decide(record: &Record, rests: bool, contacts: Contacts, voltage: &Voltage, blocks: &Blocks) -> Decision {
     let ready = rests && record.drive == Drive::Rest;
     let repeat = repeat_still(record.repeat, contacts, voltage);
-    let idle = Decision {
-        wait: Wait::None,
-        begun: None,
-        repeat,
-    };
+    let idle = Decision { wait: Wait::None, begun: None, repeat };
     if !ready {
         return idle;
     }
@@ -58,26 +48,16 @@ fn repeat_still(repeat: Option<Side>, contacts: Contacts, voltage: &Voltage) -> 
 
 /// The side of an unblocked deviation.
 fn deviation(voltage: &Voltage, blocks: &Blocks) -> Option<Side> {
-    voltage
-        .side
-        .filter(|side| !blocks.automatic && !blocks.way(side.remedy()))
+    voltage.side.filter(|side| !blocks.automatic && !blocks.way(side.remedy()))
 }
 
 /// One more tick of waiting to `side`; at the delay, the command.
 fn automatic(record: &Record, repeat: Option<Side>, voltage: &Voltage, side: Side) -> Decision {
     let waited = record.wait.ticks_to(side) + 1;
     if waited >= delay(&record.settings, repeat, voltage, side) {
-        return Decision {
-            wait: Wait::None,
-            begun: Some(side.remedy()),
-            repeat: Some(side),
-        };
+        return Decision { wait: Wait::None, begun: Some(side.remedy()), repeat: Some(side) };
     }
-    Decision {
-        wait: Wait::to(side, waited),
-        begun: None,
-        repeat,
-    }
+    Decision { wait: Wait::to(side, waited), begun: None, repeat }
 }
 
 /// T3 if high and U > U_set5, else T2 for a repeated command, else T1.
@@ -111,11 +91,7 @@ fn manual(record: &Record, contacts: Contacts, blocks: &Blocks) -> Option<Direct
 pub fn command_on(settings: &Settings, drive: Drive) -> Option<Direction> {
     match drive {
         Drive::Asked { direction, .. } => Some(direction),
-        Drive::Moving {
-            direction,
-            length,
-            commanded: true,
-        } if length <= settings[slot::T7] => Some(direction),
+        Drive::Moving { direction, length, commanded: true } if length <= settings[slot::T7] => Some(direction),
         _ => None,
     }
 }

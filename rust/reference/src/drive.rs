@@ -16,20 +16,12 @@ pub struct Supervised {
 
 impl Supervised {
     fn goes_on(drive: Drive) -> Supervised {
-        Supervised {
-            drive,
-            fault: Fault::None,
-            ended: None,
-        }
+        Supervised { drive, fault: Fault::None, ended: None }
     }
 
     /// A fault brings rest.
     fn rests_with(fault: Fault) -> Supervised {
-        Supervised {
-            drive: Drive::Rest,
-            fault,
-            ended: None,
-        }
+        Supervised { drive: Drive::Rest, fault, ended: None }
     }
 }
 
@@ -43,22 +35,12 @@ pub fn step(record: &Record, fault: Fault, contacts: Contacts, tap: u32) -> Supe
     match record.drive {
         Drive::Rest if closed && fault == Fault::None => unasked(record, tap),
         Drive::Rest => Supervised::rests_with(fault),
-        Drive::Asked { direction, .. } if closed => Supervised::goes_on(Drive::Moving {
-            direction,
-            length: 1,
-            commanded: true,
-        }),
+        Drive::Asked { direction, .. } if closed => {
+            Supervised::goes_on(Drive::Moving { direction, length: 1, commanded: true })
+        }
         Drive::Asked { direction, age } => still_asked(settings, direction, age),
-        Drive::Moving {
-            direction,
-            length,
-            commanded,
-        } if closed => still_moving(settings, direction, length, commanded),
-        Drive::Moving {
-            direction,
-            length,
-            commanded,
-        } => ended(settings, direction, length, commanded),
+        Drive::Moving { direction, length, commanded } if closed => still_moving(settings, direction, length, commanded),
+        Drive::Moving { direction, length, commanded } => ended(settings, direction, length, commanded),
     }
 }
 
@@ -67,11 +49,7 @@ pub fn step(record: &Record, fault: Fault, contacts: Contacts, tap: u32) -> Supe
 fn unasked(record: &Record, tap: u32) -> Supervised {
     match record.last_direction {
         Some(direction) if is_sliding(&record.settings, tap) => {
-            Supervised::goes_on(Drive::Moving {
-                direction,
-                length: 1,
-                commanded: false,
-            })
+            Supervised::goes_on(Drive::Moving { direction, length: 1, commanded: false })
         }
         _ => Supervised::rests_with(Fault::RunAway),
     }
@@ -87,29 +65,16 @@ fn still_asked(settings: &Settings, direction: Direction, age: u32) -> Supervise
 }
 
 /// Closed for more than T4 ticks: long.
-fn still_moving(
-    settings: &Settings,
-    direction: Direction,
-    length: u32,
-    commanded: bool,
-) -> Supervised {
+fn still_moving(settings: &Settings, direction: Direction, length: u32, commanded: bool) -> Supervised {
     let length = length + 1;
     if length > settings[slot::T4] {
         return Supervised::rests_with(Fault::Long);
     }
-    Supervised::goes_on(Drive::Moving {
-        direction,
-        length,
-        commanded,
-    })
+    Supervised::goes_on(Drive::Moving { direction, length, commanded })
 }
 
 /// Opened: the move is over, and was fast if commanded and shorter than T6.
 fn ended(settings: &Settings, direction: Direction, length: u32, commanded: bool) -> Supervised {
     let fast = commanded && length < settings[slot::T6];
-    Supervised {
-        drive: Drive::Rest,
-        fault: if fast { Fault::Fast } else { Fault::None },
-        ended: Some(direction),
-    }
+    Supervised { drive: Drive::Rest, fault: if fast { Fault::Fast } else { Fault::None }, ended: Some(direction) }
 }

@@ -2,6 +2,12 @@
 
 use crate::reading::Reading;
 
+/// How many readings a tick brings.
+pub const READINGS: usize = 6;
+
+/// How many contacts there are; the bits after them are ignored.
+pub const CONTACTS: u32 = 21;
+
 /// The inputs of one tick.
 #[derive(Clone, Copy, Debug, PartialEq)]
 pub struct Input {
@@ -17,6 +23,13 @@ pub struct Input {
     /// Bits 0-3 units, 4-6 tens, 7 ignored.
     pub bcd: u8,
     pub sensor: u8,
+}
+
+impl Input {
+    /// The readings, in the order in which a recording has them.
+    pub fn readings(&self) -> [Reading; READINGS] {
+        [self.u_ab, self.u_zero, self.u_negative, self.i_high, self.i_bus, self.i_coupler]
+    }
 }
 
 /// The contacts, one bit each.

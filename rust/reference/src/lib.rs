@@ -5,7 +5,7 @@
 //! are in mV, currents in mA.
 //!
 //! * [`sheet::check`] takes or refuses a setting sheet,
-//! * [`tick::tick`] advances a record by one tick and gives 28 outputs.
+//! * [`tick::tick`] advances a record by one tick and gives its outputs.
 
 #![forbid(unsafe_code)]
 

@@ -7,9 +7,11 @@ use std::io::{self, BufWriter, Write};
 use std::path::Path;
 use std::process::ExitCode;
 
+use reference::recording::{READING_BYTES, SHEET_BYTES, TICK_BYTES};
 use reference::{make, replay, values};
 
 const USAGE: &str = "usage: reference values
+       reference layout
        reference replay SHEET RECORDING
        reference make SEED TICKS SHEET RECORDING";
 
@@ -30,18 +32,10 @@ fn main() -> ExitCode {
 fn run(words: &[&str]) -> ExitCode {
     match *words {
         ["values"] => done(print_values()),
-        ["replay", sheet, recording] => done(replay::replay(
-            Path::new(sheet),
-            Path::new(recording),
-            io::stdout().lock(),
-        )),
+        ["layout"] => done(print_layout()),
+        ["replay", sheet, recording] => done(replay::replay(Path::new(sheet), Path::new(recording), io::stdout().lock())),
         ["make", seed, ticks, sheet, recording] => match (seed.parse(), ticks.parse()) {
-            (Ok(seed), Ok(ticks)) => done(make::make(
-                seed,
-                ticks,
-                Path::new(sheet),
-                Path::new(recording),
-            )),
+            (Ok(seed), Ok(ticks)) => done(make::make(seed, ticks, Path::new(sheet), Path::new(recording))),
             _ => misused("SEED and TICKS must be whole numbers"),
         },
         _ => misused("no such subcommand with so many arguments"),
@@ -50,8 +44,12 @@ fn run(words: &[&str]) -> ExitCode {
 
 fn print_values() -> Result<(), String> {
     let mut out = BufWriter::new(io::stdout().lock());
-    values::print(&mut out)
-        .and_then(|()| out.flush())
+    values::print(&mut out).and_then(|()| out.flush()).map_err(|error| format!("standard output: {error}"))
+}
+
+/// The sizes of the files, as lines that a shell can take in.
+fn print_layout() -> Result<(), String> {
+    writeln!(io::stdout(), "SHEET_BYTES={SHEET_BYTES}\nREADING_BYTES={READING_BYTES}\nTICK_BYTES={TICK_BYTES}")
         .map_err(|error| format!("standard output: {error}"))
 }
 

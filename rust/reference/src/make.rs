@@ -12,10 +12,8 @@ use crate::sheet::{Settings, SLOTS};
 /// Writes a sheet and a recording of `ticks` ticks.
 pub fn make(seed: u64, ticks: u64, sheet: &Path, recording: &Path) -> Result<(), String> {
     let mut scene = Scene::new(seed);
-    fs::write(sheet, sheet_file(seed, &scene.record.settings))
-        .map_err(|error| format!("{}: {error}", sheet.display()))?;
-    write_ticks(&mut scene, ticks, recording)
-        .map_err(|error| format!("{}: {error}", recording.display()))
+    fs::write(sheet, sheet_file(seed, &scene.record.settings)).map_err(|error| format!("{}: {error}", sheet.display()))?;
+    write_ticks(&mut scene, ticks, recording).map_err(|error| format!("{}: {error}", recording.display()))
 }
 
 /// The scene's own sheet; for every 25th seed one slot of it is spoiled, and

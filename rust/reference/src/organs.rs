@@ -1,4 +1,4 @@
-//! Rule 5: the seven measuring organs.
+//! Rule 5: the measuring organs.
 
 use crate::input::Input;
 use crate::reading::{amp_limit, Reading, VOLT_LIMIT};
@@ -21,21 +21,11 @@ struct Kind {
 }
 
 const fn current(watch: Watch, reading: fn(&Input) -> Reading, set: usize) -> Kind {
-    Kind {
-        watch,
-        reading,
-        is_current: true,
-        set,
-    }
+    Kind { watch, reading, is_current: true, set }
 }
 
 const fn voltage(watch: Watch, reading: fn(&Input) -> Reading, set: usize) -> Kind {
-    Kind {
-        watch,
-        reading,
-        is_current: false,
-        set,
-    }
+    Kind { watch, reading, is_current: false, set }
 }
 
 /// The organs of slots 6 to 12, with delays T9 to T15 in the same order.

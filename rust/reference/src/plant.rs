@@ -52,22 +52,11 @@ pub struct Plant {
 
 impl Plant {
     pub fn new(tap: u32) -> Plant {
-        Plant {
-            tap,
-            state: State::Quiet,
-            direction: Direction::Raise,
-            commanded_before: false,
-        }
+        Plant { tap, state: State::Quiet, direction: Direction::Raise, commanded_before: false }
     }
 
     /// The contact on the tick after `command` was shown.
-    pub fn contact(
-        &mut self,
-        dice: &mut Dice,
-        settings: &Settings,
-        temper: Temper,
-        command: Option<Direction>,
-    ) -> bool {
+    pub fn contact(&mut self, dice: &mut Dice, settings: &Settings, temper: Temper, command: Option<Direction>) -> bool {
         let asked = command.filter(|_| !self.commanded_before);
         self.commanded_before = command.is_some();
         if let State::Quiet = self.state {
@@ -77,13 +66,7 @@ impl Plant {
     }
 
     /// Whether a quiet drive starts.
-    fn stir(
-        &mut self,
-        dice: &mut Dice,
-        settings: &Settings,
-        temper: Temper,
-        asked: Option<Direction>,
-    ) -> State {
+    fn stir(&mut self, dice: &mut Dice, settings: &Settings, temper: Temper, asked: Option<Direction>) -> State {
         let hold = hold(dice, settings, temper);
         match asked {
             Some(_) if temper == Temper::Dead => State::Quiet,
@@ -127,10 +110,7 @@ impl Plant {
         };
         let slides = is_sliding(settings, self.tap) && !dice.one_in(4);
         self.state = match slides || dice.one_in(40) {
-            true => State::Starting {
-                wait: dice.between(0, 6),
-                hold: hold(dice, settings, Temper::Proper),
-            },
+            true => State::Starting { wait: dice.between(0, 6), hold: hold(dice, settings, Temper::Proper) },
             false => State::Quiet,
         };
     }

@@ -1,9 +1,12 @@
 //! The regulator's record: all that one tick hands to the next.
 
-use crate::sheet::{check_ranges, check_taps, slot, Settings, SLOTS};
+use crate::sheet::{check, check_ranges, check_taps, slot, Refusal, Settings, SLOTS};
 
 /// How many organs there are (slots 6-12 switch them on).
 pub const ORGANS: usize = 7;
+
+/// How many of them, the first ones, watch a current.
+pub const CURRENT_ORGANS: usize = 3;
 
 /// The longest wait a record may hold.
 pub const LONGEST_WAIT: u32 = 35_999;
@@ -129,6 +132,11 @@ pub struct Record {
 }
 
 impl Record {
+    /// Takes a list as the fresh record that carries it, or refuses it.
+    pub fn start(list: &[u32]) -> Result<Record, Refusal> {
+        check(list).map(Record::fresh)
+    }
+
     /// The fresh record of rule 1.
     pub fn fresh(settings: Settings) -> Record {
         Record {
@@ -201,12 +209,8 @@ fn fault_within(record: &Record) -> bool {
 /// Every count at most its organ's delay, and 0 if the organ is not marked.
 fn organs_within(record: &Record) -> bool {
     let delays = &record.settings[slot::T9..];
-    record
-        .organs
-        .iter()
-        .zip(delays)
-        .all(|(organ, &delay)| match organ.marked {
-            true => organ.count <= delay,
-            false => organ.count == 0,
-        })
+    record.organs.iter().zip(delays).all(|(organ, &delay)| match organ.marked {
+        true => organ.count <= delay,
+        false => organ.count == 0,
+    })
 }

@@ -1,6 +1,6 @@
 //! The files: sheets and recordings, numbers with their least byte first.
 
-use crate::input::{Contacts, Input};
+use crate::input::{Contacts, Input, READINGS};
 use crate::reading::Reading;
 use crate::sheet::{Settings, SLOTS};
 
@@ -8,10 +8,15 @@ use crate::sheet::{Settings, SLOTS};
 pub const SHEET_BYTES: usize = 4 * SLOTS;
 
 /// Bytes of one reading: its quality and its float.
-const READING_BYTES: usize = 5;
+pub const READING_BYTES: usize = 5;
+
+/// Where the contacts stand in a recorded tick, the BCD byte and the sensor byte.
+const CONTACTS_AT: usize = READINGS * READING_BYTES;
+const BCD_AT: usize = CONTACTS_AT + 4;
+const SENSOR_AT: usize = BCD_AT + 1;
 
 /// Bytes of one recorded tick.
-pub const TICK_BYTES: usize = 36;
+pub const TICK_BYTES: usize = SENSOR_AT + 1;
 
 /// A byte of a tick that says nothing: the quality byte at this place.
 #[derive(Clone, Copy, Debug, PartialEq, Eq)]
@@ -21,7 +26,7 @@ pub struct BadQuality {
 }
 
 /// The numbers of a sheet file. A file of any other length than a whole
-/// sheet's is a list that is not 63 long.
+/// sheet's is a list of another length.
 pub fn sheet_from_bytes(bytes: &[u8]) -> Vec<u32> {
     if bytes.len() != SHEET_BYTES {
         return Vec::new();
@@ -36,17 +41,21 @@ pub fn sheet_to_bytes(settings: &Settings) -> Vec<u8> {
 
 /// Reads one recorded tick.
 pub fn tick_from_bytes(bytes: &[u8; TICK_BYTES]) -> Result<Input, BadQuality> {
-    let reading = |i: usize| reading_at(bytes, i * READING_BYTES);
+    let mut readings = [Reading::Invalid; READINGS];
+    for (i, reading) in readings.iter_mut().enumerate() {
+        *reading = reading_at(bytes, i * READING_BYTES)?;
+    }
+    let [u_ab, u_zero, u_negative, i_high, i_bus, i_coupler] = readings;
     Ok(Input {
-        u_ab: reading(0)?,
-        u_zero: reading(1)?,
-        u_negative: reading(2)?,
-        i_high: reading(3)?,
-        i_bus: reading(4)?,
-        i_coupler: reading(5)?,
-        contacts: Contacts(number(&bytes[30..34])),
-        bcd: bytes[34],
-        sensor: bytes[35],
+        u_ab,
+        u_zero,
+        u_negative,
+        i_high,
+        i_bus,
+        i_coupler,
+        contacts: Contacts(number(&bytes[CONTACTS_AT..BCD_AT])),
+        bcd: bytes[BCD_AT],
+        sensor: bytes[SENSOR_AT],
     })
 }
 
@@ -62,17 +71,10 @@ fn reading_at(bytes: &[u8; TICK_BYTES], at: usize) -> Result<Reading, BadQuality
 
 /// Writes one recorded tick.
 pub fn tick_to_bytes(input: &Input) -> [u8; TICK_BYTES] {
-    let readings = [
-        input.u_ab,
-        input.u_zero,
-        input.u_negative,
-        input.i_high,
-        input.i_bus,
-        input.i_coupler,
-    ];
     let mut bytes = [0; TICK_BYTES];
-    for (reading, place) in readings.iter().zip(bytes.chunks_exact_mut(READING_BYTES)) {
-        let (quality, float) = match *reading {
+    let places = bytes.chunks_exact_mut(READING_BYTES);
+    for (reading, place) in input.readings().into_iter().zip(places) {
+        let (quality, float) = match reading {
             Reading::Good(x) => (0, x),
             Reading::Held(x) => (1, x),
             Reading::Invalid => (2, 0.0),
@@ -80,16 +82,13 @@ pub fn tick_to_bytes(input: &Input) -> [u8; TICK_BYTES] {
         place[0] = quality;
         place[1..].copy_from_slice(&float.to_bits().to_le_bytes());
     }
-    bytes[30..34].copy_from_slice(&input.contacts.0.to_le_bytes());
-    bytes[34] = input.bcd;
-    bytes[35] = input.sensor;
+    bytes[CONTACTS_AT..BCD_AT].copy_from_slice(&input.contacts.0.to_le_bytes());
+    bytes[BCD_AT] = input.bcd;
+    bytes[SENSOR_AT] = input.sensor;
     bytes
 }
 
 /// A 32-bit number, least byte first.
 fn number(bytes: &[u8]) -> u32 {
-    bytes
-        .iter()
-        .rev()
-        .fold(0, |sum, &byte| (sum << 8) | u32::from(byte))
+    bytes.iter().rev().fold(0, |sum, &byte| (sum << 8) | u32::from(byte))
 }

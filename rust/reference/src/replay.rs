@@ -6,7 +6,6 @@ use std::path::Path;
 
 use crate::record::Record;
 use crate::recording::{sheet_from_bytes, tick_from_bytes, TICK_BYTES};
-use crate::sheet;
 use crate::tick::{tick, OUTPUTS};
 
 /// Replays the files and writes the lines; an error is one clear line.
@@ -20,10 +19,8 @@ pub fn replay(sheet: &Path, recording: &Path, out: impl Write) -> Result<(), Str
 
 fn replay_files(sheet: &Path, recording: &Path, out: &mut impl Write) -> Result<(), String> {
     let bytes = fs::read(sheet).map_err(|error| unread(sheet, &error))?;
-    match sheet::check(&sheet_from_bytes(&bytes)) {
-        Err(refusal) => {
-            writeln!(out, "{} {}", refusal.number, refusal.slot).map_err(|error| unwritten(&error))
-        }
+    match Record::start(&sheet_from_bytes(&bytes)) {
+        Err(refusal) => writeln!(out, "{} {}", refusal.number, refusal.slot).map_err(|error| unwritten(&error)),
         Ok(record) => {
             let file = File::open(recording).map_err(|error| unread(recording, &error))?;
             writeln!(out, "0 0").map_err(|error| unwritten(&error))?;
@@ -33,12 +30,7 @@ fn replay_files(sheet: &Path, recording: &Path, out: &mut impl Write) -> Result<
 }
 
 /// Every tick of the recording in turn.
-fn run(
-    mut record: Record,
-    mut file: impl Read,
-    name: &Path,
-    out: &mut impl Write,
-) -> Result<(), String> {
+fn run(mut record: Record, mut file: impl Read, name: &Path, out: &mut impl Write) -> Result<(), String> {
     let mut offset: u64 = 0;
     loop {
         let mut bytes = [0; TICK_BYTES];

@@ -1,7 +1,7 @@
 //! A regulator in a simulated substation, tick after tick.
 
 use crate::dice::Dice;
-use crate::input::{bit, Contacts, Input};
+use crate::input::{bit, Contacts, Input, CONTACTS};
 use crate::make_sheet;
 use crate::plant::Plant;
 use crate::reading::{thousandths, Reading};
@@ -70,7 +70,7 @@ impl Scene {
 
     /// The steady contacts, the drive's, the buttons, reset, and flips.
     fn contacts(&mut self, settings: &Settings) -> u32 {
-        let mut contacts = self.stretch.contacts | (self.dice.bits() << 21);
+        let mut contacts = self.stretch.contacts | (self.dice.bits() << CONTACTS);
         let command = match (self.outputs[0], self.outputs[1]) {
             (1, _) => Some(Direction::Raise),
             (_, 1) => Some(Direction::Lower),
@@ -92,8 +92,8 @@ impl Scene {
         }
         if self.dice.one_in(self.stretch.flips) {
             contacts ^= match self.dice.one_in(8) {
-                true => self.dice.bits() & 0x1F_FFFF,
-                false => 1 << self.dice.between(0, 20),
+                true => self.dice.bits() & ((1 << CONTACTS) - 1),
+                false => 1 << self.dice.between(0, CONTACTS - 1),
             };
         }
         contacts

@@ -1,9 +1,10 @@
-//! The setting sheet: 63 numbers and the one list of ranges they must meet.
-
-use crate::record::Record;
+//! The setting sheet: its numbers and the one list of ranges they must meet.
 
 /// How many numbers a sheet has.
 pub const SLOTS: usize = 63;
+
+/// How many of them are sliding taps.
+pub const SLIDING_TAPS: usize = 10;
 
 /// The numbers of a sheet.
 pub type Settings = [u32; SLOTS];
@@ -51,7 +52,7 @@ pub mod slot {
     pub const N_L: usize = 50;
     pub const N_START: usize = 51;
     pub const N_MAX: usize = 52;
-    /// First of ten.
+    /// First of the sliding taps.
     pub const SLIDING: usize = 53;
 }
 
@@ -66,21 +67,11 @@ pub struct Range {
 }
 
 const fn range(low: u32, high: u32, step: u32) -> Range {
-    Range {
-        low,
-        high,
-        step,
-        times_k: false,
-    }
+    Range { low, high, step, times_k: false }
 }
 
 const fn current(low: u32, high: u32) -> Range {
-    Range {
-        low,
-        high,
-        step: 1,
-        times_k: true,
-    }
+    Range { low, high, step: 1, times_k: true }
 }
 
 const FLAG: Range = range(0, 1, 1);
@@ -146,10 +137,7 @@ pub struct Refusal {
 }
 
 fn refusal(number: u32, slot: usize) -> Refusal {
-    Refusal {
-        number,
-        slot: slot as u32,
-    }
+    Refusal { number, slot: slot as u32 }
 }
 
 /// The module's k: 1 for the 1 A module, 5 for the 5 A one.
@@ -160,12 +148,12 @@ pub fn module_k(settings: &Settings) -> u32 {
     }
 }
 
-/// Takes a list as the fresh record that carries it, or refuses it.
-pub fn check(list: &[u32]) -> Result<Record, Refusal> {
+/// Takes a list, or refuses it.
+pub fn check(list: &[u32]) -> Result<Settings, Refusal> {
     let settings: Settings = list.try_into().map_err(|_| refusal(1, 0))?;
     check_ranges(&settings)?;
     check_taps(&settings)?;
-    Ok(Record::fresh(settings))
+    Ok(settings)
 }
 
 /// Refusal 2: the lowest slot out of its range.

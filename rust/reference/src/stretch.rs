@@ -111,9 +111,7 @@ pub fn others(dice: &mut Dice, settings: &Settings) -> [u32; 5] {
     let bus = match dice.between(0, 5) {
         0 => near(dice, settings[slot::I_SET2]),
         1 => near(dice, settings[slot::I_SET3]),
-        _ => dice
-            .between(0, 600 * k)
-            .max(settings[slot::I_SET3] * 11 / 10),
+        _ => dice.between(0, 600 * k).max(settings[slot::I_SET3] * 11 / 10),
     };
     [
         calm_or_near(dice, settings[slot::U_SET3]).min(200_000),

@@ -2,7 +2,7 @@
 
 use crate::input::Input;
 use crate::record::{Direction, Record};
-use crate::sheet::{slot, Settings};
+use crate::sheet::{slot, Settings, SLIDING_TAPS};
 
 /// The numbers of slot 5.
 pub mod source {
@@ -24,11 +24,7 @@ pub struct Tap {
 
 impl Tap {
     fn is(number: u32) -> Tap {
-        Tap {
-            number,
-            wrong_code: false,
-            range_error: false,
-        }
+        Tap { number, wrong_code: false, range_error: false }
     }
 }
 
@@ -48,10 +44,7 @@ fn from_bcd(settings: &Settings, lines: u8) -> Tap {
     let units = u32::from(lines & 0x0F);
     let tens = u32::from((lines >> 4) & 0x07);
     if units > 9 {
-        return Tap {
-            wrong_code: true,
-            ..Tap::is(0)
-        };
+        return Tap { wrong_code: true, ..Tap::is(0) };
     }
     in_range(settings, 10 * tens + units)
 }
@@ -61,16 +54,13 @@ fn in_range(settings: &Settings, number: u32) -> Tap {
     if (settings[slot::N_L]..=settings[slot::N_R]).contains(&number) {
         return Tap::is(number);
     }
-    Tap {
-        range_error: true,
-        ..Tap::is(0)
-    }
+    Tap { range_error: true, ..Tap::is(0) }
 }
 
 /// Whether this tap is one that the drive slides over. Tap 0 never is: an
 /// empty sliding slot is no tap.
 pub fn is_sliding(settings: &Settings, tap: u32) -> bool {
-    tap != 0 && settings[slot::SLIDING..].contains(&tap)
+    tap != 0 && settings[slot::SLIDING..][..SLIDING_TAPS].contains(&tap)
 }
 
 /// The counted tap at tick end, and whether the step went past an end.

@@ -5,9 +5,7 @@ use crate::command::{self, Decision};
 use crate::drive::{self, Supervised};
 use crate::input::{bit, Contacts, Input};
 use crate::organs;
-use crate::record::{
-    within_limits, Direction, Drive, Fault, Organ, Record, Side, MOST_OPERATIONS, ORGANS,
-};
+use crate::record::{within_limits, Direction, Drive, Fault, Organ, Record, Side, MOST_OPERATIONS, ORGANS};
 use crate::section;
 use crate::sheet::{slot, Settings};
 use crate::tap::{self, Tap};
@@ -39,11 +37,7 @@ pub fn tick(record: &Record, input: &Input) -> Ticked {
 
 /// A reply with all outputs 0.
 fn silent(refusal: u32, next: Record) -> Ticked {
-    Ticked {
-        refusal,
-        outputs: [0; OUTPUTS],
-        next,
-    }
+    Ticked { refusal, outputs: [0; OUTPUTS], next }
 }
 
 /// What rules 2 to 9 find on a live tick.
@@ -65,11 +59,7 @@ fn live(record: &Record, input: &Input) -> Ticked {
     let findings = find(record, input);
     let next = advance(record, input, &findings);
     let outputs = show(record, input, &findings, &next);
-    Ticked {
-        refusal: 0,
-        outputs,
-        next,
-    }
+    Ticked { refusal: 0, outputs, next }
 }
 
 /// Rules 2 to 9, in order.
@@ -92,17 +82,7 @@ fn find(record: &Record, input: &Input) -> Findings {
     });
     let rests = supervised.drive == Drive::Rest;
     let decision = command::decide(record, rests, contacts, &voltage, &blocks);
-    Findings {
-        age_before,
-        section,
-        tap,
-        organs,
-        trips,
-        voltage,
-        supervised,
-        blocks,
-        decision,
-    }
+    Findings { age_before, section, tap, organs, trips, voltage, supervised, blocks, decision }
 }
 
 /// Rule 2: reset clears the fault.
@@ -158,7 +138,7 @@ fn operations_after(record: &Record, ended: Option<Direction>) -> u32 {
     }
 }
 
-/// The 28 outputs.
+/// The outputs, by the paper's field.
 fn show(record: &Record, input: &Input, found: &Findings, next: &Record) -> [u32; OUTPUTS] {
     let settings = &record.settings;
     let command = command::command_on(settings, next.drive);
@@ -196,8 +176,7 @@ fn show(record: &Record, input: &Input, found: &Findings, next: &Record) -> [u32
 fn supply_trip(next: &Record, age_before: u32) -> bool {
     let settings = &next.settings;
     let lasting = settings[slot::LASTING_SUPPLY_TRIP] == 1;
-    matches!(next.fault, Fault::RunAway | Fault::Long)
-        && (lasting || age_before < settings[slot::T8])
+    matches!(next.fault, Fault::RunAway | Fault::Long) && (lasting || age_before < settings[slot::T8])
 }
 
 /// Operations, and whether they reach N_max; nothing without slot 17.

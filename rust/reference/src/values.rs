@@ -5,12 +5,12 @@ use std::io::{self, Write};
 use crate::input::{Contacts, Input};
 use crate::reading::{thousandths, Reading};
 use crate::record::Record;
-use crate::sheet::{check, slot};
+use crate::sheet::{check, slot, Settings, SLOTS};
 use crate::tap;
 
 /// A sheet that is taken, and that the worked values start from.
 #[rustfmt::skip]
-pub const BASE: [u32; 63] = [
+pub const BASE: Settings = [
     1, 0, 0, 0, 0, 0,
     1, 1, 1, 1, 1, 1, 1,
     0, 0, 0, 0, 1, 0,
@@ -199,7 +199,7 @@ fn answer(bits: u32, limit: u32) -> Option<u32> {
 fn print_sheets(out: &mut impl Write) -> io::Result<()> {
     let mut longer = BASE.to_vec();
     longer.push(0);
-    for list in [&BASE[..], &BASE[..62], &longer, &[]] {
+    for list in [&BASE[..], &BASE[..SLOTS - 1], &longer, &[]] {
         let (number, slot) = verdict(list);
         writeln!(out, "sheet {number} {slot}")?;
     }
@@ -207,7 +207,7 @@ fn print_sheets(out: &mut impl Write) -> io::Result<()> {
 }
 
 /// Every slot with every tried number, as a running checksum.
-fn print_slots(out: &mut impl Write, word: &str, base: &[u32; 63]) -> io::Result<()> {
+fn print_slots(out: &mut impl Write, word: &str, base: &Settings) -> io::Result<()> {
     let mut sum: u64 = 7;
     for i in 0..base.len() {
         for tried in TRIED {
@@ -230,7 +230,7 @@ fn verdict(list: &[u32]) -> (u32, u32) {
 }
 
 /// The base sheet for the 5 A module.
-pub fn base_5a() -> [u32; 63] {
+pub fn base_5a() -> Settings {
     let mut list = BASE;
     list[slot::MODULE] = 1;
     list[slot::I_SET1] = 5_000;

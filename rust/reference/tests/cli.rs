@@ -4,15 +4,13 @@ use std::fs;
 use std::path::PathBuf;
 use std::process::{Command, Output};
 
-use reference::recording::sheet_to_bytes;
+use reference::recording::{sheet_to_bytes, READING_BYTES, SHEET_BYTES, TICK_BYTES};
 use reference::scene::Scene;
+use reference::sheet::SLOTS;
 use reference::values::BASE;
 
 fn reference(words: &[&str]) -> Output {
-    Command::new(env!("CARGO_BIN_EXE_reference"))
-        .args(words)
-        .output()
-        .unwrap()
+    Command::new(env!("CARGO_BIN_EXE_reference")).args(words).output().unwrap()
 }
 
 /// A clean directory, and the names of a sheet and a recording in it.
@@ -48,7 +46,7 @@ fn values_have_all_their_lines() {
     let output = reference(&["values"]);
     assert!(output.status.success());
     let lines = text(&output.stdout);
-    assert_eq!(lines.lines().count(), 18 + 3 + 1 + 1 + 4 + 2 * 63 + 256);
+    assert_eq!(lines.lines().count(), 18 + 3 + 1 + 1 + 4 + 2 * SLOTS + 256);
     assert!(lines.starts_with("reading 200 1120416563 100099\nreading 200 1128792064 200000\n"));
     assert!(lines.contains("\nsheet 0 0\nsheet 1 0\nsheet 1 0\nsheet 1 0\nslot 0 "));
 }
@@ -57,11 +55,9 @@ fn values_have_all_their_lines() {
 fn a_made_recording_can_be_replayed() {
     let (sheet, recording) = files("made");
     for seed in ["1", "2", "3"] {
-        assert!(reference(&["make", seed, "500", &sheet, &recording])
-            .status
-            .success());
+        assert!(reference(&["make", seed, "500", &sheet, &recording]).status.success());
         let made = (fs::read(&sheet).unwrap(), fs::read(&recording).unwrap());
-        assert_eq!(made.1.len(), 500 * 36);
+        assert_eq!(made.1.len(), 500 * TICK_BYTES);
         let output = reference(&["replay", &sheet, &recording]);
         assert!(output.status.success());
         let lines = text(&output.stdout);
@@ -82,9 +78,9 @@ fn a_made_recording_can_be_replayed() {
 #[test]
 fn every_25th_made_sheet_is_spoiled() {
     let (sheet, recording) = files("spoiled");
-    for (seed, length) in [("24", 252), ("74", 252)] {
+    for seed in ["24", "74"] {
         reference(&["make", seed, "0", &sheet, &recording]);
-        assert_eq!(fs::read(&sheet).unwrap().len(), length);
+        assert_eq!(fs::read(&sheet).unwrap().len(), SHEET_BYTES);
     }
     reference(&["make", "99", "0", &sheet, &recording]);
     let output = reference(&["replay", &sheet, &recording]);
@@ -94,16 +90,12 @@ fn every_25th_made_sheet_is_spoiled() {
 #[test]
 fn a_refused_sheet_is_the_whole_answer() {
     let (sheet, recording) = files("refused");
-    fs::write(&recording, [0; 36]).unwrap();
+    fs::write(&recording, [0; TICK_BYTES]).unwrap();
     let mut wrong = BASE;
     wrong[60] = 41;
     let mut longer = sheet_to_bytes(&BASE);
     longer.push(0);
-    for (bytes, answer) in [
-        (sheet_to_bytes(&wrong), "2 60\n"),
-        (longer, "1 0\n"),
-        (Vec::new(), "1 0\n"),
-    ] {
+    for (bytes, answer) in [(sheet_to_bytes(&wrong), "2 60\n"), (longer, "1 0\n"), (Vec::new(), "1 0\n")] {
         fs::write(&sheet, bytes).unwrap();
         let output = reference(&["replay", &sheet, &recording]);
         assert!(output.status.success());
@@ -128,20 +120,21 @@ fn an_empty_recording() {
 
 #[test]
 fn a_bad_quality_byte() {
-    let mut bytes = [0; 3 * 36];
-    bytes[36 + 20] = 3;
+    let mut bytes = [0; 3 * TICK_BYTES];
+    let at = TICK_BYTES + 4 * READING_BYTES;
+    bytes[at] = 3;
     let output = replayed("quality", &bytes);
     assert_eq!(output.status.code(), Some(1));
     assert_eq!(text(&output.stdout).lines().count(), 2);
-    assert!(text(&output.stderr).contains("at offset 56"));
+    assert!(text(&output.stderr).contains(&format!("at offset {at}")));
 }
 
 #[test]
 fn a_tick_cut_short() {
-    let output = replayed("cut", &[0; 2 * 36 + 35]);
+    let output = replayed("cut", &[0; 3 * TICK_BYTES - 1]);
     assert_eq!(output.status.code(), Some(1));
     assert_eq!(text(&output.stdout).lines().count(), 3);
-    assert!(text(&output.stderr).contains("ends at offset 107"));
+    assert!(text(&output.stderr).contains(&format!("ends at offset {}", 3 * TICK_BYTES - 1)));
 }
 
 #[test]

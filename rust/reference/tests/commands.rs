@@ -113,13 +113,8 @@ fn t3_is_for_high_only() {
 #[test]
 fn the_wait_starts_anew() {
     let low = auto(99_000, &[]);
-    for gap in [
-        auto(100_000, &[]),
-        auto(101_000, &[]),
-        auto(99_000, &[bit::OIL_COLD]),
-        auto(99_000, &[bit::END_UP]),
-        with(&[]),
-    ] {
+    for gap in [auto(100_000, &[]), auto(101_000, &[]), auto(99_000, &[bit::OIL_COLD]), auto(99_000, &[bit::END_UP]), with(&[])]
+    {
         let mut record = fresh(&DELAYS);
         steps(&mut record, &low, 49);
         assert_eq!(record.wait, Wait::ToLow(49));
@@ -168,11 +163,7 @@ fn a_change_of_mode_does_not_drop_a_command() {
 fn buttons() {
     let (raise, lower) = (bit::RAISE_BUTTON, bit::LOWER_BUTTON);
     // Each press after a tick without buttons.
-    for (pressed, expected) in [
-        (vec![raise], [1, 0]),
-        (vec![lower], [0, 1]),
-        (vec![raise, lower], [0, 0]),
-    ] {
+    for (pressed, expected) in [(vec![raise], [1, 0]), (vec![lower], [0, 1]), (vec![raise, lower], [0, 0])] {
         let mut record = fresh(&[]);
         step(&mut record, &calm());
         assert_eq!(step(&mut record, &with(&pressed))[0..=1], expected);
@@ -192,10 +183,7 @@ fn buttons() {
 fn buttons_do_nothing_in_automatic_but_are_remembered() {
     let mut record = fresh(&[]);
     step(&mut record, &auto(100_000, &[]));
-    assert_eq!(
-        step(&mut record, &auto(100_000, &[bit::RAISE_BUTTON]))[0],
-        0
-    );
+    assert_eq!(step(&mut record, &auto(100_000, &[bit::RAISE_BUTTON]))[0], 0);
     assert_eq!(step(&mut record, &with(&[bit::RAISE_BUTTON]))[0], 0);
     step(&mut record, &calm());
     assert_eq!(step(&mut record, &with(&[bit::RAISE_BUTTON]))[0], 1);

@@ -34,14 +34,7 @@ fn started_on_the_t5th_tick_after_the_first() {
     assert_eq!((outputs[1], outputs[20], outputs[24]), (1, 0, 1));
     let direction = Direction::Lower;
     let (length, commanded) = (1, true);
-    assert_eq!(
-        record.drive,
-        Drive::Moving {
-            direction,
-            length,
-            commanded
-        }
-    );
+    assert_eq!(record.drive, Drive::Moving { direction, length, commanded });
 }
 
 #[test]
@@ -131,18 +124,8 @@ fn at_sliding_tap() -> reference::record::Record {
 fn own_move_over_a_sliding_tap() {
     let mut record = at_sliding_tap();
     let outputs = step(&mut record, &with(&[bit::SWITCHING]));
-    assert_eq!(
-        (outputs[0], outputs[3], outputs[19], outputs[24]),
-        (0, 21, 0, 1)
-    );
-    assert!(matches!(
-        record.drive,
-        Drive::Moving {
-            length: 1,
-            commanded: false,
-            direction: Direction::Raise
-        }
-    ));
+    assert_eq!((outputs[0], outputs[3], outputs[19], outputs[24]), (0, 21, 0, 1));
+    assert!(matches!(record.drive, Drive::Moving { length: 1, commanded: false, direction: Direction::Raise }));
     // Short as it is, an own move is not fast; it counts like any other.
     let outputs = step(&mut record, &calm());
     assert_eq!((outputs[22], outputs[24], outputs[25]), (0, 0, 2));

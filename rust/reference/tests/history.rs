@@ -77,10 +77,7 @@ impl Watcher {
 
     /// The side to which this is a waiting tick, in automatic.
     fn waits_to(&self, input: &Input, outputs: &Outputs) -> Option<Side> {
-        let clear = self.at_rest()
-            && !input.contacts.on(bit::SWITCHING)
-            && outputs[13] == 0
-            && outputs[19..=22] == [0; 4];
+        let clear = self.at_rest() && !input.contacts.on(bit::SWITCHING) && outputs[13] == 0 && outputs[19..=22] == [0; 4];
         if clear && outputs[17] == 1 && outputs[15] == 0 {
             Some(Side::Low)
         } else if clear && outputs[18] == 1 && outputs[16] == 0 {
@@ -101,11 +98,7 @@ impl Watcher {
             self.repeat = None;
         }
         let waits = self.waits_to(input, outputs);
-        self.row = if waits == self.row_side {
-            self.row + 1
-        } else {
-            1
-        };
+        self.row = if waits == self.row_side { self.row + 1 } else { 1 };
         self.row_side = waits;
         let Some(side) = waits else {
             return (0, 0);

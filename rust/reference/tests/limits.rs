@@ -3,25 +3,18 @@
 mod common;
 
 use common::*;
-use reference::record::{within_limits, Direction, Drive, Fault, Organ, Record, Side, Wait};
+use reference::record::{within_limits, Direction, Drive, Fault, Organ, Record, Side, Wait, ORGANS};
 use reference::sheet::slot;
-use reference::tick::tick;
+use reference::tick::{tick, OUTPUTS};
 
 const RAISE: Direction = Direction::Raise;
 
 fn asked(age: u32) -> Drive {
-    Drive::Asked {
-        direction: RAISE,
-        age,
-    }
+    Drive::Asked { direction: RAISE, age }
 }
 
 fn moving(length: u32) -> Drive {
-    Drive::Moving {
-        direction: RAISE,
-        length,
-        commanded: true,
-    }
+    Drive::Moving { direction: RAISE, length, commanded: true }
 }
 
 /// Whether the fresh base record, changed so, is within its limits; a record
@@ -33,7 +26,7 @@ fn holds(change: impl Fn(&mut Record)) -> bool {
     let ticked = tick(&record, &calm());
     assert_eq!(ticked.refusal, if within { 0 } else { 4 });
     if !within {
-        assert_eq!(ticked.outputs, [0; 28]);
+        assert_eq!(ticked.outputs, [0; OUTPUTS]);
         assert_eq!(ticked.next, record);
     }
     within
@@ -81,7 +74,7 @@ fn fault() {
 
 #[test]
 fn organs() {
-    for i in 0..7 {
+    for i in 0..ORGANS {
         let organ = |marked, count| Organ { marked, count };
         assert!(holds(|r| r.organs[i] = organ(true, 10)));
         assert!(holds(|r| r.organs[i] = organ(true, 0)));

@@ -4,10 +4,10 @@ use reference::dice::Dice;
 use reference::input::{bit, Contacts, Input};
 use reference::make_sheet;
 use reference::reading::Reading;
-use reference::record::{within_limits, Direction, Drive, Fault, Organ, Record, Side, Wait};
+use reference::record::{within_limits, Direction, Drive, Fault, Organ, Record, Side, Wait, ORGANS};
 use reference::scene::{float_of, Scene};
-use reference::sheet::{check, slot};
-use reference::tick::{tick, Ticked};
+use reference::sheet::slot;
+use reference::tick::{tick, Ticked, OUTPUTS};
 
 /// What holds of every accepted tick.
 fn assert_sound(before: &Record, ticked: &Ticked) {
@@ -21,7 +21,7 @@ fn assert_sound(before: &Record, ticked: &Ticked) {
     assert!(outputs[19..=22].iter().sum::<u32>() <= 1, "two faults");
     assert!(outputs[4] + outputs[5] <= 1, "wrong code and range error");
     assert!(outputs[0] + outputs[1] <= outputs[24], "a command at rest");
-    let flags = (0..28).filter(|field| ![3, 25].contains(field));
+    let flags = (0..OUTPUTS).filter(|field| ![3, 25].contains(field));
     assert!(flags.into_iter().all(|field| outputs[field] <= 1));
 }
 
@@ -39,7 +39,7 @@ fn scenes_stay_sound() {
 
 #[test]
 fn scenes_show_everything() {
-    let mut shown = [0_u32; 28];
+    let mut shown = [0_u32; OUTPUTS];
     for seed in 0..60 {
         let mut scene = Scene::new(seed);
         for _ in 0..1_500 {
@@ -58,7 +58,7 @@ fn scenes_show_everything() {
 fn chance_sheets_are_taken() {
     for seed in 0..2_000 {
         let list = make_sheet::sheet(&mut Dice::new(seed));
-        assert_eq!(check(&list), Ok(Record::fresh(list)));
+        assert_eq!(Record::start(&list), Ok(Record::fresh(list)));
     }
 }
 
@@ -112,15 +112,8 @@ fn any_drive(dice: &mut Dice, record: &Record) -> Drive {
     let direction = any_direction(dice);
     match dice.between(0, 2) {
         0 => Drive::Rest,
-        1 => Drive::Asked {
-            direction,
-            age: any_up_to(dice, 0, record.settings[slot::T5] - 1),
-        },
-        _ => Drive::Moving {
-            direction,
-            length: any_up_to(dice, 1, record.settings[slot::T4]),
-            commanded: dice.one_in(2),
-        },
+        1 => Drive::Asked { direction, age: any_up_to(dice, 0, record.settings[slot::T5] - 1) },
+        _ => Drive::Moving { direction, length: any_up_to(dice, 1, record.settings[slot::T4]), commanded: dice.one_in(2) },
     }
 }
 
@@ -140,7 +133,7 @@ fn any_record(dice: &mut Dice) -> Record {
     if record.fault != Fault::None {
         record.fault_age = any_up_to(dice, 0, settings[slot::T8]);
     }
-    for i in 0..7 {
+    for i in 0..ORGANS {
         let count = any_up_to(dice, 0, settings[slot::T9 + i]);
         if dice.one_in(2) {
             let marked = true;

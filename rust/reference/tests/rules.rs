@@ -5,8 +5,9 @@ mod common;
 use common::*;
 use reference::input::bit;
 use reference::reading::{thousandths, Reading};
-use reference::record::{Drive, Fault, Record};
+use reference::record::{Drive, Fault, Record, CURRENT_ORGANS, ORGANS};
 use reference::sheet::slot;
+use reference::tick::OUTPUTS;
 
 // Readings.
 
@@ -53,7 +54,7 @@ fn out_makes_the_record_fresh() {
     press_raise(&mut record);
     assert_ne!(record, Record::fresh(record.settings));
     let outputs = step(&mut record, &with(&[bit::OUT, bit::SWITCHING]));
-    assert_eq!(outputs, [0; 28]);
+    assert_eq!(outputs, [0; OUTPUTS]);
     assert_eq!(record, Record::fresh(record.settings));
 }
 
@@ -61,7 +62,7 @@ fn out_makes_the_record_fresh() {
 fn not_in_service_is_always_fresh() {
     let mut record = fresh(&[(slot::IN_SERVICE, 0)]);
     for _ in 0..30 {
-        assert_eq!(step(&mut record, &auto(90_000, &[])), [0; 28]);
+        assert_eq!(step(&mut record, &auto(90_000, &[])), [0; OUTPUTS]);
         assert_eq!(record, Record::fresh(record.settings));
     }
 }
@@ -132,14 +133,7 @@ fn section_by_load_current() {
 #[test]
 fn tap_from_the_sensor() {
     let narrow = [(slot::TAP_SOURCE, 2), (slot::N_L, 18), (slot::N_R, 22)];
-    let cases = [
-        (17, [0, 0, 1]),
-        (18, [18, 0, 0]),
-        (22, [22, 0, 0]),
-        (23, [0, 0, 1]),
-        (0, [0, 0, 1]),
-        (255, [0, 0, 1]),
-    ];
+    let cases = [(17, [0, 0, 1]), (18, [18, 0, 0]), (22, [22, 0, 0]), (23, [0, 0, 1]), (0, [0, 0, 1]), (255, [0, 0, 1])];
     for (sensor, expected) in cases {
         let mut input = calm();
         input.bcd = 0x1F; // not read
@@ -161,8 +155,8 @@ fn no_tap_source_or_a_counted_tap_reads_no_lines() {
 // Rule 5.
 
 /// Outputs of a fresh regulator without delays after one tick.
-fn trips_at_once(change: impl Fn(&mut reference::input::Input)) -> [u32; 7] {
-    let no_delay: Vec<_> = (0..7).map(|i| (slot::T9 + i, 0)).collect();
+fn trips_at_once(change: impl Fn(&mut reference::input::Input)) -> [u32; ORGANS] {
+    let no_delay: Vec<_> = (0..ORGANS).map(|i| (slot::T9 + i, 0)).collect();
     let mut input = calm();
     change(&mut input);
     let outputs = step(&mut fresh(&no_delay), &input);
@@ -171,32 +165,14 @@ fn trips_at_once(change: impl Fn(&mut reference::input::Input)) -> [u32; 7] {
 
 #[test]
 fn each_organ_watches_its_own_reading() {
-    assert_eq!(trips_at_once(|_| {}), [0; 7]);
-    assert_eq!(
-        trips_at_once(|i| i.i_high = good(1_001)),
-        [1, 0, 0, 0, 0, 0, 0]
-    );
-    assert_eq!(
-        trips_at_once(|i| i.i_bus = good(1_001)),
-        [0, 1, 0, 0, 0, 0, 0]
-    );
+    assert_eq!(trips_at_once(|_| {}), [0; ORGANS]);
+    assert_eq!(trips_at_once(|i| i.i_high = good(1_001)), [1, 0, 0, 0, 0, 0, 0]);
+    assert_eq!(trips_at_once(|i| i.i_bus = good(1_001)), [0, 1, 0, 0, 0, 0, 0]);
     assert_eq!(trips_at_once(|i| i.i_bus = good(99)), [0, 0, 1, 0, 0, 0, 0]);
-    assert_eq!(
-        trips_at_once(|i| i.u_ab = good(120_001)),
-        [0, 0, 0, 1, 0, 0, 0]
-    );
-    assert_eq!(
-        trips_at_once(|i| i.u_ab = good(89_999)),
-        [0, 0, 0, 0, 1, 0, 0]
-    );
-    assert_eq!(
-        trips_at_once(|i| i.u_zero = good(10_001)),
-        [0, 0, 0, 0, 0, 1, 0]
-    );
-    assert_eq!(
-        trips_at_once(|i| i.u_negative = good(5_001)),
-        [0, 0, 0, 0, 0, 0, 1]
-    );
+    assert_eq!(trips_at_once(|i| i.u_ab = good(120_001)), [0, 0, 0, 1, 0, 0, 0]);
+    assert_eq!(trips_at_once(|i| i.u_ab = good(89_999)), [0, 0, 0, 0, 1, 0, 0]);
+    assert_eq!(trips_at_once(|i| i.u_zero = good(10_001)), [0, 0, 0, 0, 0, 1, 0]);
+    assert_eq!(trips_at_once(|i| i.u_negative = good(5_001)), [0, 0, 0, 0, 0, 0, 1]);
 }
 
 #[test]
@@ -206,9 +182,9 @@ fn at_the_set_value_no_organ_trips() {
         (i.u_zero, i.u_negative) = (good(10_000), good(5_000));
         i.u_ab = good(120_000);
     });
-    assert_eq!(at_set, [0; 7]);
-    assert_eq!(trips_at_once(|i| i.i_bus = good(100)), [0; 7]);
-    assert_eq!(trips_at_once(|i| i.u_ab = good(90_000)), [0; 7]);
+    assert_eq!(at_set, [0; ORGANS]);
+    assert_eq!(trips_at_once(|i| i.i_bus = good(100)), [0; ORGANS]);
+    assert_eq!(trips_at_once(|i| i.u_ab = good(90_000)), [0; ORGANS]);
 }
 
 #[test]
@@ -243,15 +219,9 @@ fn an_organ_without_section_or_value_is_cleared() {
 
 #[test]
 fn the_highest_support_bit_counts() {
-    let supports = [
-        (slot::U_SUPP, 90_000),
-        (slot::U_SUPP + 1, 100_000),
-        (slot::U_SUPP + 2, 110_000),
-        (slot::U_SUPP + 3, 120_000),
-    ];
-    let expected = [
-        90_000, 100_000, 110_000, 110_000, 120_000, 120_000, 120_000, 120_000,
-    ];
+    let supports =
+        [(slot::U_SUPP, 90_000), (slot::U_SUPP + 1, 100_000), (slot::U_SUPP + 2, 110_000), (slot::U_SUPP + 3, 120_000)];
+    let expected = [90_000, 100_000, 110_000, 110_000, 120_000, 120_000, 120_000, 120_000];
     for (bits, support) in (0..8).zip(expected) {
         for (millivolts, low) in [(support - 1_000, 1), (support - 999, 0)] {
             let mut input = auto(millivolts, &[]);
@@ -264,10 +234,7 @@ fn the_highest_support_bit_counts() {
 /// Whether U is missing: with the section there and no organ tripped, only
 /// that blocks automatic.
 fn u_missing(current: u32, change: impl Fn(&mut reference::input::Input)) -> bool {
-    let sheet = [
-        (slot::COMPENSATION, 1),
-        (slot::COMPENSATION_CURRENT, current),
-    ];
+    let sheet = [(slot::COMPENSATION, 1), (slot::COMPENSATION_CURRENT, current)];
     let mut input = auto(100_000, &[]);
     change(&mut input);
     let outputs = step(&mut fresh(&sheet), &input);
@@ -276,12 +243,7 @@ fn u_missing(current: u32, change: impl Fn(&mut reference::input::Input)) -> boo
 
 #[test]
 fn only_the_needed_currents_must_be_good() {
-    for (current, needs_bus, needs_coupler) in [
-        (0, true, false),
-        (1, false, true),
-        (2, true, true),
-        (3, true, true),
-    ] {
+    for (current, needs_bus, needs_coupler) in [(0, true, false), (1, false, true), (2, true, true), (3, true, true)] {
         for bad in [held(500), Reading::Invalid, Reading::Good(-1.0)] {
             assert_eq!(u_missing(current, |i| i.i_bus = bad), needs_bus);
             assert_eq!(u_missing(current, |i| i.i_coupler = bad), needs_coupler);
@@ -295,10 +257,7 @@ fn only_the_needed_currents_must_be_good() {
 fn compensation_by_each_current() {
     // U_comp 5,000 mV at 1 A; bus 400 mA, coupler 100 mA.
     for (current, less) in [(0, 2_000), (1, 500), (2, 1_500), (3, 2_500)] {
-        let sheet = [
-            (slot::COMPENSATION, 1),
-            (slot::COMPENSATION_CURRENT, current),
-        ];
+        let sheet = [(slot::COMPENSATION, 1), (slot::COMPENSATION_CURRENT, current)];
         for (millivolts, low) in [(99_000 + less, 1), (99_001 + less, 0)] {
             let mut input = auto(millivolts, &[]);
             (input.i_bus, input.i_coupler) = (good(400), good(100));
@@ -361,9 +320,9 @@ fn disturbance(i: usize) -> reference::input::Input {
 
 #[test]
 fn each_organ_blocks_by_its_own_slot() {
-    for i in 0..7 {
+    for i in 0..ORGANS {
         let now = (slot::T9 + i, 0);
-        let (own, other) = if i < 3 { (13, 14) } else { (14, 13) };
+        let (own, other) = if i < CURRENT_ORGANS { (13, 14) } else { (14, 13) };
         let input = disturbance(i);
         assert_eq!(blocked(&[now, (other, 1)], &input), [1, 0, 0, 0]);
         assert_eq!(blocked(&[now, (own, 1)], &input), [0, 0, 0, 0]);
@@ -390,17 +349,9 @@ fn end_taps_block() {
 
 #[test]
 fn end_taps_block_the_other_way_round_when_reversed() {
-    for (start, source, expected) in [
-        (40, 3, [0, 0, 1, 0]),
-        (1, 3, [0, 0, 0, 1]),
-        (40, 4, [0, 0, 0, 1]),
-        (1, 4, [0, 0, 1, 0]),
-    ] {
-        let sheet = [
-            (slot::TAP_SOURCE, source),
-            (slot::BLOCK_AT_END_TAP, 1),
-            (slot::N_POS, start),
-        ];
+    for (start, source, expected) in [(40, 3, [0, 0, 1, 0]), (1, 3, [0, 0, 0, 1]), (40, 4, [0, 0, 0, 1]), (1, 4, [0, 0, 1, 0])]
+    {
+        let sheet = [(slot::TAP_SOURCE, source), (slot::BLOCK_AT_END_TAP, 1), (slot::N_POS, start)];
         assert_eq!(blocked(&sheet, &calm()), expected);
     }
 }

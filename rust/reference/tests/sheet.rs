@@ -1,7 +1,7 @@
 //! The setting sheet's check.
 
 use reference::record::{within_limits, Drive, Fault, Record, Wait};
-use reference::sheet::{check, slot, Refusal, RANGES};
+use reference::sheet::{check, slot, Refusal, Settings, RANGES, SLOTS};
 use reference::values::{base_5a, BASE};
 
 fn refused(list: &[u32]) -> (u32, u32) {
@@ -11,16 +11,16 @@ fn refused(list: &[u32]) -> (u32, u32) {
     }
 }
 
-fn changed(base: &[u32; 63], slot: usize, number: u32) -> [u32; 63] {
+fn changed(base: &Settings, slot: usize, number: u32) -> Settings {
     let mut list = *base;
     list[slot] = number;
     list
 }
 
 #[test]
-fn a_list_that_is_not_63_long() {
+fn a_list_of_another_length() {
     assert_eq!(refused(&[]), (1, 0));
-    assert_eq!(refused(&BASE[..62]), (1, 0));
+    assert_eq!(refused(&BASE[..SLOTS - 1]), (1, 0));
     assert_eq!(refused(&[BASE.as_slice(), &[0]].concat()), (1, 0));
 }
 
@@ -107,12 +107,9 @@ fn taps_must_be_in_order() {
 #[test]
 fn the_fresh_record() {
     let list = changed(&BASE, slot::N_START, 77);
-    let record = check(&list).unwrap();
+    let record = Record::start(&list).unwrap();
     assert_eq!(record.settings, list);
-    assert!(record
-        .organs
-        .iter()
-        .all(|organ| !organ.marked && organ.count == 0));
+    assert!(record.organs.iter().all(|organ| !organ.marked && organ.count == 0));
     assert_eq!((record.drive, record.fault), (Drive::Rest, Fault::None));
     assert_eq!((record.fault_age, record.wait), (0, Wait::None));
     assert_eq!((record.repeat, record.last_direction), (None, None));

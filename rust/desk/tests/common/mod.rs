@@ -5,8 +5,8 @@ use std::fs;
 use std::path::{Path, PathBuf};
 use std::process::{Command, Output};
 
-use avr::file::File;
-use avr::names::TABLE;
+use desk::file::File;
+use desk::names::TABLE;
 
 pub fn file(text: &str) -> File {
     File { name: "file".to_string(), bytes: text.as_bytes().to_vec() }
@@ -84,7 +84,7 @@ pub fn err(output: &Output) -> String {
 }
 
 pub fn examples() -> PathBuf {
-    Path::new(env!("CARGO_MANIFEST_DIR")).join("../examples")
+    Path::new(env!("CARGO_MANIFEST_DIR")).join("../../examples")
 }
 
 /// What stands between two marks.

@@ -6,7 +6,6 @@ use reference::input::{bit, Contacts, Input};
 use reference::reading::Reading;
 use reference::record::Record;
 use reference::scene::float_of;
-use reference::sheet::check;
 use reference::tick::{tick, OUTPUTS};
 use reference::values::BASE;
 
@@ -28,7 +27,7 @@ pub fn fresh(changes: &[(usize, u32)]) -> Record {
     for &(slot, number) in changes {
         list[slot] = number;
     }
-    check(&list).expect("a sheet that is taken")
+    Record::start(&list).expect("a sheet that is taken")
 }
 
 /// Breaker closed, manual, the voltage in the band, all organs quiet.

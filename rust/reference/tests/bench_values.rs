@@ -34,12 +34,7 @@ fn band() {
 
 #[test]
 fn band_in_a_tick() {
-    let expected = [
-        (99_000, (1, 0)),
-        (99_001, (0, 0)),
-        (100_999, (0, 0)),
-        (101_000, (0, 1)),
-    ];
+    let expected = [(99_000, (1, 0)), (99_001, (0, 0)), (100_999, (0, 0)), (101_000, (0, 1))];
     for (millivolts, sides) in expected {
         let outputs = step(&mut fresh(&[]), &auto(millivolts, &[]));
         assert_eq!((outputs[17], outputs[18]), sides, "{millivolts} mV");

@@ -1,18 +1,19 @@
 //! The scope paper's bench values that are not proved together, and its five 'wrong and inviting' ones, on the proved library; each
 //! tick is held to the second program's as well.
 
-use hosttest::convert::{brought, image_of};
-use hosttest::{start, tick, Image, Outputs, FIELDS};
+use comparison::convert::{brought, image_of};
+use library::{start, tick, Image, Outputs, FIELDS};
 use reference::dice::Dice;
-use reference::input::{Contacts, Input};
+use reference::input::{bit, Contacts, Input};
 use reference::reading::Reading;
-use reference::record::Record;
+use reference::record::{Record, ORGANS};
+use reference::sheet::slot;
 use reference::values::BASE;
 
-const BREAKER: u32 = 1;
-const CLOSED: u32 = 1 << 1;
-const AUTOMATIC: u32 = 1 << 14;
-const RAISE_BUTTON: u32 = 1 << 19;
+const BREAKER: u32 = 1 << bit::BREAKER_CLOSED;
+const CLOSED: u32 = 1 << bit::SWITCHING;
+const AUTOMATIC: u32 = 1 << bit::AUTOMATIC;
+const RAISE_BUTTON: u32 = 1 << bit::RAISE_BUTTON;
 
 /// A unit on the bench, with the second program beside it.
 struct Unit {
@@ -25,33 +26,20 @@ impl Unit {
     /// The worked values' sheet with organs off, and these slots set.
     fn new(slots: &[(usize, u32)]) -> Unit {
         let mut sheet = BASE;
-        sheet[6..13].fill(0);
+        sheet[slot::ORGANS_ON..][..ORGANS].fill(0);
         for &(slot, number) in slots {
             sheet[slot] = number;
         }
         let started = start(&sheet);
         assert_eq!((started.number, started.slot), (0, 0));
-        let record = reference::sheet::check(&sheet).expect("a sheet that is taken");
+        let record = Record::start(&sheet).expect("a sheet that is taken");
         assert_eq!(started.image, image_of(&record));
-        Unit {
-            image: started.image,
-            record,
-            dice: Dice::new(1),
-        }
+        Unit { image: started.image, record, dice: Dice::new(1) }
     }
 
     fn tick(&mut self, input: &Input) -> [u32; FIELDS] {
-        let mut outputs = Outputs {
-            fields: [9; FIELDS],
-        };
-        assert_eq!(
-            tick(
-                &mut self.image,
-                &brought(input, &mut self.dice),
-                &mut outputs
-            ),
-            0
-        );
+        let mut outputs = Outputs { fields: [9; FIELDS] };
+        assert_eq!(tick(&mut self.image, &brought(input, &mut self.dice), &mut outputs), 0);
         let second = reference::tick::tick(&self.record, input);
         assert_eq!(outputs.fields, second.outputs);
         self.record = second.next;
@@ -95,13 +83,9 @@ fn raised(slots: &[(usize, u32)]) -> Unit {
 #[test]
 fn t6_of_100_takes_99_for_fast_and_not_100() {
     for (held, fast) in [(99, 1), (100, 0)] {
-        let mut unit = raised(&[(36, 200), (38, 100)]);
+        let mut unit = raised(&[(slot::T4, 200), (slot::T6, 100)]);
         unit.ticks(held, &volts(98.0, AUTOMATIC | CLOSED));
-        assert_eq!(
-            unit.tick(&volts(98.0, AUTOMATIC))[22],
-            fast,
-            "held for {held}"
-        );
+        assert_eq!(unit.tick(&volts(98.0, AUTOMATIC))[22], fast, "held for {held}");
     }
 }
 
@@ -118,7 +102,7 @@ fn a_button_held_from_the_first_tick_commands_nothing() {
 #[test]
 fn t7_of_0_is_off_when_the_contact_closes() {
     for (t7, on) in [(0, 0), (1, 1)] {
-        let mut unit = raised(&[(39, t7)]);
+        let mut unit = raised(&[(slot::T7, t7)]);
         assert_eq!(unit.tick(&volts(98.0, AUTOMATIC))[0], 1);
         assert_eq!(unit.tick(&volts(98.0, AUTOMATIC | CLOSED))[0], on);
         assert_eq!(unit.tick(&volts(98.0, AUTOMATIC | CLOSED))[0], 0);
@@ -128,20 +112,14 @@ fn t7_of_0_is_off_when_the_contact_closes() {
 /// 0x42C83333 V is 100,099 mV, a millivolt below the band's edge; in floats it would be 100,100.
 #[test]
 fn a_reading_is_not_multiplied_in_floats() {
-    let mut unit = Unit::new(&[(19, 99_600), (23, 1_000)]);
-    assert_eq!(
-        unit.tick(&volts(f32::from_bits(0x42C8_3333), AUTOMATIC))[18],
-        0
-    );
-    assert_eq!(
-        unit.tick(&volts(f32::from_bits(0x42C8_3334), AUTOMATIC))[18],
-        1
-    );
+    let mut unit = Unit::new(&[(slot::U_SUPP, 99_600), (slot::DU, 1_000)]);
+    assert_eq!(unit.tick(&volts(f32::from_bits(0x42C8_3333), AUTOMATIC))[18], 0);
+    assert_eq!(unit.tick(&volts(f32::from_bits(0x42C8_3334), AUTOMATIC))[18], 1);
 }
 
 #[test]
 fn tap_0_matches_no_empty_sliding_slot() {
-    let mut unit = raised(&[(38, 0)]);
+    let mut unit = raised(&[(slot::T6, 0)]);
     unit.ticks(30, &volts(98.0, AUTOMATIC | CLOSED));
     assert_eq!(unit.tick(&volts(100.0, AUTOMATIC))[24], 0);
     let shown = unit.tick(&volts(100.0, AUTOMATIC | CLOSED));
@@ -159,13 +137,13 @@ fn a_band_edge_is_outside() {
 #[test]
 fn a_negative_drop_is_rounded_toward_zero() {
     let mut unit = Unit::new(&[
-        (1, 1),
-        (3, 1),
-        (4, 2),
-        (24, 5_100),
-        (25, 5_000),
-        (26, 5_000),
-        (27, 500),
+        (slot::MODULE, 1),
+        (slot::COMPENSATION, 1),
+        (slot::COMPENSATION_CURRENT, 2),
+        (slot::U_COMP, 5_100),
+        (slot::I_SET1, 5_000),
+        (slot::I_SET2, 5_000),
+        (slot::I_SET3, 500),
     ]);
     let mut input = volts(f32::from_bits(0x42C5_FE77), AUTOMATIC);
     input.i_bus = Reading::Good(f32::from_bits(0x3A83_126F));
@@ -177,7 +155,7 @@ fn a_negative_drop_is_rounded_toward_zero() {
 
 #[test]
 fn no_run_away_after_long_while_the_contact_is_closed() {
-    let mut unit = raised(&[(36, 20)]);
+    let mut unit = raised(&[(slot::T4, 20)]);
     assert_eq!(unit.ticks(20, &volts(98.0, AUTOMATIC | CLOSED))[21], 0);
     for _ in 0..50 {
         let shown = unit.tick(&volts(98.0, AUTOMATIC | CLOSED));

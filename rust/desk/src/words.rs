@@ -1,0 +1,74 @@
+//! The words of a command line after its subcommand.
+
+/// What a subcommand takes: how many plain words, which options, and those of which one must be given.
+pub struct Takes {
+    pub plain: usize,
+    pub options: &'static [&'static str],
+    pub needed: &'static [&'static [&'static str]],
+}
+
+/// Plain words, and options with their values.
+#[derive(Debug, Default, PartialEq)]
+pub struct Words {
+    pub plain: Vec<String>,
+    pub help: bool,
+    options: Vec<(String, String)>,
+}
+
+impl Words {
+    pub fn option(&self, name: &str) -> Option<&str> {
+        self.options.iter().find(|(known, _)| known == name).map(|(_, value)| value.as_str())
+    }
+
+    /// An option that the command line must have; `parse` has seen to it.
+    pub fn needed(&self, name: &str) -> &str {
+        self.option(name).unwrap_or_default()
+    }
+
+    fn take_option(&mut self, takes: &Takes, name: &str, value: Option<String>) -> Result<(), String> {
+        if !takes.options.contains(&name) {
+            return Err(format!("no option is called --{name}"));
+        }
+        if self.option(name).is_some() {
+            return Err(format!("--{name} is given twice"));
+        }
+        let value = value.ok_or_else(|| format!("--{name} has no value"))?;
+        self.options.push((name.to_string(), value));
+        Ok(())
+    }
+
+    /// Whether all is there that the subcommand needs.
+    fn complete(&self, takes: &Takes) -> Result<(), String> {
+        if self.plain.len() != takes.plain {
+            return Err(format!("{} file names given, {} wanted", self.plain.len(), takes.plain));
+        }
+        for names in takes.needed {
+            if names.iter().filter(|name| self.option(name).is_some()).count() != 1 {
+                return Err(format!("give --{}", names.join(" or --")));
+            }
+        }
+        Ok(())
+    }
+}
+
+pub fn parse(takes: &Takes, words: &[String]) -> Result<Words, String> {
+    let mut parsed = Words::default();
+    let mut rest = words.iter();
+    while let Some(word) = rest.next() {
+        match word.as_str() {
+            "--help" | "-h" => parsed.help = true,
+            "--" => parsed.plain.extend(rest.by_ref().cloned()),
+            "-o" => parsed.take_option(takes, "output", rest.next().cloned())?,
+            long if long.starts_with("--") => match long[2..].split_once('=') {
+                Some((name, value)) => parsed.take_option(takes, name, Some(value.to_string()))?,
+                None => parsed.take_option(takes, &long[2..], rest.next().cloned())?,
+            },
+            short if short.len() > 1 && short.starts_with('-') => return Err(format!("no option is called {short}")),
+            _ => parsed.plain.push(word.clone()),
+        }
+    }
+    match parsed.help {
+        true => Ok(parsed),
+        false => parsed.complete(takes).map(|()| parsed),
+    }
+}
