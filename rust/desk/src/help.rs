@@ -28,7 +28,7 @@ pub const SHEET_CHECK: &str = "\
 usage: avr sheet check FILE [-o SHEET]
 
 Says whether the unit takes the sheet in FILE, and if not, why: name, value, range and step, and the refusal's number and slot.
-With -o, --output: writes the binary SHEET, 63 numbers of 32 bits, least byte first.
+With -o, --output: writes the binary SHEET, a number of 32 bits for each setting, least byte first.
 
 FILE is text: `name = value` a line, `#` begins a comment. The names are those of the manual's table of settings; one that is
 left out has its default. Values are in V, A and s, or words:
@@ -41,13 +41,13 @@ left out has its default. Values are in V, A and s, or words:
     N1 = empty          # or a sliding tap
     T2 = raw 12000      # the slot's number as it is in the SHEET
 
-`avr sheet show` lists all 63 names. FILE may also be a SHEET.
+`avr sheet show` lists all names. FILE may also be a SHEET.
 ";
 
 pub const SHEET_SHOW: &str = "\
 usage: avr sheet show SHEET
 
-Prints a binary SHEET as text, all 63 settings with what they mean. A SHEET that the unit refuses is told as `sheet check` does.
+Prints a binary SHEET as text, all settings with what they mean. A SHEET that the unit refuses is told as `sheet check` does.
 ";
 
 pub const SCENARIO: &str = "\
@@ -58,8 +58,8 @@ usage: avr scenario write FILE -o RECORDING [--sheet FILE]
 pub const SCENARIO_WRITE: &str = "\
 usage: avr scenario write FILE -o RECORDING [--sheet FILE]
 
-Writes the scenario in FILE as a binary RECORDING, 36 bytes a tick of 5 ms. A scenario with a simulated drive answers the unit,
-so it needs the sheet of the unit, --sheet.
+Writes the scenario in FILE as a binary RECORDING: for each tick of 5 ms its readings, its contacts, the BCD and the sensor
+byte. A scenario with a simulated drive answers the unit, so it needs the sheet of the unit, --sheet.
 
 FILE is CSV. The first row names the columns, the first of them `seconds` or `ticks`. A row stands from its time on until the
 next row; an empty cell leaves what stood. The first row is at 0, the last one is a time and the word `end`. `#` begins a

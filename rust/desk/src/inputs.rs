@@ -1,4 +1,8 @@
-//! The names of what a tick brings: six readings, and the contacts and keys by bit.
+//! The names of what a tick brings: its readings, and the contacts and keys by bit.
+
+use library::READINGS as COUNT;
+
+use crate::same::same;
 
 /// A reading: its name and unit.
 pub struct Reading {
@@ -6,7 +10,7 @@ pub struct Reading {
     pub unit: &'static str,
 }
 
-pub const READINGS: [Reading; 6] = [
+pub const READINGS: [Reading; COUNT] = [
     reading("U_AB", "V"),
     reading("3U0", "V"),
     reading("U2", "V"),
@@ -19,6 +23,17 @@ const fn reading(name: &'static str, unit: &'static str) -> Reading {
     Reading { name, unit }
 }
 
+/// The place of a reading, found while the tool is compiled.
+pub const fn reading_at(name: &str) -> usize {
+    let mut place = 0;
+    while !same(READINGS[place].name, name) {
+        place += 1;
+    }
+    place
+}
+
+pub const U_AB: usize = reading_at("U_AB");
+
 /// A contact or key: its column, and what a table says when it is on and off.
 pub struct Contact {
     pub name: &'static str,
@@ -26,10 +41,10 @@ pub struct Contact {
     pub off: &'static str,
 }
 
-pub const SWITCHING: u32 = 1;
-pub const SUPPLY_OFF: u32 = 2;
-pub const RESET: u32 = 12;
-pub const U_SUPP2: u32 = 16;
+pub const SWITCHING: u32 = bit("switching");
+pub const SUPPLY_OFF: u32 = bit("supply_off");
+pub const RESET: u32 = bit("reset");
+pub const U_SUPP2: u32 = bit("U_supp2");
 
 /// By bit; the unit ignores those after `lower`.
 pub const CONTACTS: [Contact; 32] = [
@@ -66,6 +81,15 @@ pub const CONTACTS: [Contact; 32] = [
     contact("bit30", "bit 30 set", "bit 30 clear"),
     contact("bit31", "bit 31 set", "bit 31 clear"),
 ];
+
+/// The bit of a contact, found while the tool is compiled.
+const fn bit(name: &str) -> u32 {
+    let mut bit = 0;
+    while !same(CONTACTS[bit].name, name) {
+        bit += 1;
+    }
+    bit as u32
+}
 
 const fn contact(name: &'static str, on: &'static str, off: &'static str) -> Contact {
     Contact { name, on, off }

@@ -1,7 +1,11 @@
 //! Lanes: a row of bars for each thing that is on or off.
 
+use std::ops::RangeInclusive;
+
+use library::ORGANS;
+
 use crate::inputs::{is_on, CONTACTS, SWITCHING};
-use crate::outputs::{BLOCKS, FAULTS, HIGH, LOW, LOWER, RAISE, SHORT, SUPPLY_TRIP, TRIPS};
+use crate::outputs::{BLOCKS, FAULTS, HIGH, LOW, LOWER, RAISE, RANGE_ERROR, SHORT, SUPPLY_TRIP, TRIPS, WORN, WRONG_CODE};
 use crate::run::{History, Signal};
 use crate::svg::{BLACK, BLUE, GREEN, ORANGE, PURPLE, SKY, VERMILLION, YELLOW};
 
@@ -38,19 +42,19 @@ pub fn moving(history: &History) -> Group {
 
 /// The four blocks.
 pub fn blocks(history: &History) -> Group {
-    (BLOCKS..BLOCKS + 4).map(|field| output(history, field, SHORT[field], YELLOW)).collect()
+    BLOCKS.map(|field| output(history, field, SHORT[field], YELLOW)).collect()
 }
 
 /// Trips and faults: a lane for each that came, and one for each kind if none did; the supply trip.
 pub fn alarms(history: &History) -> Group {
-    let mut group = some_or_one(history, TRIPS, 7, "trip", PURPLE);
-    group.extend(some_or_one(history, FAULTS, 4, "fault", VERMILLION));
+    let mut group = some_or_one(history, TRIPS..=TRIPS + ORGANS - 1, "trip", PURPLE);
+    group.extend(some_or_one(history, FAULTS, "fault", VERMILLION));
     group.push(Lane { timed: true, ..output(history, SUPPLY_TRIP, SHORT[SUPPLY_TRIP], VERMILLION) });
     group
 }
 
-fn some_or_one(history: &History, first: usize, count: usize, kind: &str, colour: &'static str) -> Group {
-    let lanes = (first..first + count).map(|field| output(history, field, &format!("{kind}: {}", SHORT[field]), colour));
+fn some_or_one(history: &History, fields: RangeInclusive<usize>, kind: &str, colour: &'static str) -> Group {
+    let lanes = fields.map(|field| output(history, field, &format!("{kind}: {}", SHORT[field]), colour));
     let came: Group = lanes.filter(|lane| !lane.on.is_empty()).map(|lane| Lane { timed: true, ..lane }).collect();
     match came.is_empty() {
         true => vec![lane(format!("{kind}s: none"), colour, Vec::new())],
@@ -60,7 +64,7 @@ fn some_or_one(history: &History, first: usize, count: usize, kind: &str, colour
 
 /// Wrong tap codes, range errors and wear, where they come.
 pub fn notes(history: &History) -> Group {
-    let lanes = [4, 5, 26].map(|field| output(history, field, SHORT[field], SKY));
+    let lanes = [WRONG_CODE, RANGE_ERROR, WORN].map(|field| output(history, field, SHORT[field], SKY));
     lanes.into_iter().filter(|lane| !lane.on.is_empty()).collect()
 }
 

@@ -22,6 +22,7 @@ pub mod play;
 pub mod progress;
 pub mod recording;
 pub mod run;
+pub mod same;
 pub mod scale;
 pub mod scenario;
 pub mod sheet;

@@ -1,6 +1,9 @@
 //! The limits of the readings that a picture shows.
 
-use crate::names::U_SET5;
+use library::ORGANS;
+
+use crate::inputs::reading_at as reading;
+use crate::names::at;
 
 /// A limit of a reading: its slot, and the slot that watches it; none for U_set5, which always counts.
 pub struct Limit {
@@ -9,19 +12,19 @@ pub struct Limit {
     watch: Option<usize>,
 }
 
-pub const LIMITS: [Limit; 8] = [
-    limit(0, U_SET5, None),
-    limit(3, 25, Some(6)),
-    limit(4, 26, Some(7)),
-    limit(4, 27, Some(8)),
-    limit(0, 28, Some(9)),
-    limit(0, 29, Some(10)),
-    limit(1, 30, Some(11)),
-    limit(2, 31, Some(12)),
+pub const LIMITS: [Limit; ORGANS + 1] = [
+    Limit { reading: reading("U_AB"), slot: at("U_set5"), watch: None },
+    organ("I_high", "I_set1", "XB7"),
+    organ("I_bus", "I_set2", "XB8"),
+    organ("I_bus", "I_set3", "XB9"),
+    organ("U_AB", "U_set1", "XB10"),
+    organ("U_AB", "U_set2", "XB11"),
+    organ("3U0", "U_set3", "XB12"),
+    organ("U2", "U_set4", "XB13"),
 ];
 
-const fn limit(reading: usize, slot: usize, watch: Option<usize>) -> Limit {
-    Limit { reading, slot, watch }
+const fn organ(of: &str, limit: &str, watch: &str) -> Limit {
+    Limit { reading: reading(of), slot: at(limit), watch: Some(at(watch)) }
 }
 
 impl Limit {

@@ -1,16 +1,26 @@
-//! The names, units, words, defaults and ranges of the 63 slots, after the manual's table of settings (source document 002,
+//! The names, units, words, defaults and ranges of the slots, after the manual's table of settings (source document 002,
 //! table 2.2.1.2). The ranges only explain a refusal; whether a sheet is refused is the library's word. A test holds them to it.
 
 use library::SLOTS;
 
-pub const MODULE: usize = 1;
-pub const COMPENSATION: usize = 3;
-pub const U_SUPP: usize = 19;
-pub const D_U: usize = 23;
-pub const U_SET5: usize = 32;
-pub const N_POS: usize = 48;
-pub const N_R: usize = 49;
-pub const N_L: usize = 50;
+use crate::same::same;
+
+pub const MODULE: usize = at("I_nom");
+pub const COMPENSATION: usize = at("XB4");
+pub const U_SUPP: usize = at("U_supp1");
+pub const D_U: usize = at("dU_set");
+pub const N_POS: usize = at("N_pos");
+pub const N_R: usize = at("N_R");
+pub const N_L: usize = at("N_L");
+
+/// The slot of a name of the table, found while the tool is compiled.
+pub const fn at(name: &str) -> usize {
+    let mut slot = 0;
+    while !same(TABLE[slot].name, name) {
+        slot += 1;
+    }
+    slot
+}
 
 /// How a person writes a slot's number.
 #[derive(Clone, Copy, Debug, PartialEq)]

@@ -1,17 +1,36 @@
-//! The names of the 28 outputs.
+//! The names of the outputs.
+
+use std::ops::RangeInclusive;
 
 use library::FIELDS;
 
-pub const RAISE: usize = 0;
-pub const LOWER: usize = 1;
-pub const TAP: usize = 3;
-pub const TRIPS: usize = 6;
-pub const BLOCKS: usize = 13;
-pub const LOW: usize = 17;
-pub const HIGH: usize = 18;
-pub const FAULTS: usize = 19;
-pub const SUPPLY_TRIP: usize = 23;
-pub const OPERATIONS: usize = 25;
+use crate::same::same;
+
+pub const RAISE: usize = at("raise");
+pub const LOWER: usize = at("lower");
+pub const TAP: usize = at("tap");
+pub const WRONG_CODE: usize = at("wrong BCD code");
+pub const RANGE_ERROR: usize = at("tap range error");
+/// The first of the organs' trips.
+pub const TRIPS: usize = at("I_high over I_set1");
+/// From the first block to the last.
+pub const BLOCKS: RangeInclusive<usize> = at("automatic blocked")..=at("lower blocked");
+pub const LOW: usize = at("low");
+pub const HIGH: usize = at("high");
+/// From the first fault to the last.
+pub const FAULTS: RangeInclusive<usize> = at("run-away")..=at("fast move");
+pub const SUPPLY_TRIP: usize = at("supply trip");
+pub const OPERATIONS: usize = at("operations");
+pub const WORN: usize = at("worn: N_max reached");
+
+/// The field of a short name, found while the tool is compiled.
+const fn at(name: &str) -> usize {
+    let mut field = 0;
+    while !same(SHORT[field], name) {
+        field += 1;
+    }
+    field
+}
 
 /// Short names, for the picture.
 pub const SHORT: [&str; FIELDS] = [

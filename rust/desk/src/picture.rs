@@ -1,7 +1,7 @@
 //! The picture: panels of readings, lanes of what is on, the tap, and a time axis.
 
 use crate::band::{self, Band};
-use crate::inputs::READINGS;
+use crate::inputs::{READINGS, U_AB};
 use crate::lanes::{self, Group, Lane, Tip};
 use crate::limits::LIMITS;
 use crate::names::{COMPENSATION, TABLE};
@@ -61,13 +61,14 @@ fn height(history: &History) -> f64 {
 
 /// The readings of the panels below the voltage: other voltages and currents, where there are any.
 fn small_panels(history: &History) -> Vec<(&'static str, Vec<usize>)> {
-    let kinds = [("V", 1..3), ("A", 3..6)];
     let used = |at: &usize| history.readings[*at].iter().any(|(_, sample)| sample.value != 0.0);
-    let panels = kinds.map(|(unit, range)| (unit, range.filter(used).collect::<Vec<usize>>()));
+    let others = |unit| (0..READINGS.len()).filter(move |at| *at != U_AB && READINGS[*at].unit == unit);
+    let panels = ["V", "A"].map(|unit| (unit, others(unit).filter(used).collect::<Vec<usize>>()));
     panels.into_iter().filter(|(_, used)| !used.is_empty()).collect()
 }
 
-const COLOURS: [(&str, &str); 6] =
+/// How each reading is drawn: its colour and its dashes.
+const COLOURS: [(&str, &str); READINGS.len()] =
     [(BLACK, ""), (BLUE, ""), (VERMILLION, "7 3"), (BLUE, ""), (VERMILLION, "7 3"), (GREEN, "2 3")];
 
 impl<'a> Picture<'a> {
@@ -98,7 +99,7 @@ impl<'a> Picture<'a> {
 
     fn voltage(&mut self) {
         let history = self.history;
-        let mut series = [self.series(0)];
+        let mut series = [self.series(U_AB)];
         if self.list[COMPENSATION] == 1 {
             series[0].label = "U_AB, measured".to_string();
         }
@@ -109,7 +110,7 @@ impl<'a> Picture<'a> {
         let scale = ValueScale::around(low, high, self.y, VOLTAGE_HEIGHT);
         let mut labels = self.draw_bands(&bands, scale);
         panel::axis(&mut self.svg, self.time, scale, "voltage, V");
-        labels.extend(self.draw_limits(&[0], scale));
+        labels.extend(self.draw_limits(&[U_AB], scale));
         panel::draw(&mut self.svg, self.time, scale, &series[0]);
         labels.extend(label_of(&series[0], scale));
         panel::labels(&mut self.svg, self.time.right(), scale, labels);

@@ -5,7 +5,7 @@ use library::{Brought, Sample, FIELDS, INVALID};
 use crate::cells::lines_of;
 use crate::columns::Column;
 use crate::drive::{Drive, Nature, Seen, Way};
-use crate::inputs::{is_on, with, RESET, SUPPLY_OFF, SWITCHING};
+use crate::inputs::{is_on, with, RESET, SUPPLY_OFF, SWITCHING, U_AB};
 use crate::outputs::{LOWER, RAISE, SUPPLY_TRIP};
 use crate::scenario::Scenario;
 
@@ -84,7 +84,7 @@ impl<'a> Player<'a> {
             brought.sensor = drive.tap;
         }
         let taps = f64::from(drive.tap) - f64::from(nature.tap);
-        brought.readings[0] = shifted(brought.readings[0], taps * nature.step);
+        brought.readings[U_AB] = shifted(brought.readings[U_AB], taps * nature.step);
         brought
     }
 }

@@ -1,15 +1,20 @@
-//! RECORDINGs: 36 bytes a tick.
+//! RECORDINGs: the same number of bytes for each tick.
 
 use library::{Brought, Sample};
 
 use crate::file::{Errors, File};
 use crate::inputs::READINGS;
 
-/// Bytes of a tick.
-pub const BYTES: usize = 36;
-
 /// Bytes of a reading: its quality and its float.
-const READING_BYTES: usize = 5;
+pub const READING_BYTES: usize = 5;
+
+/// Where the contacts stand in a tick, the BCD byte and the sensor byte.
+const CONTACTS_AT: usize = READINGS.len() * READING_BYTES;
+const BCD_AT: usize = CONTACTS_AT + 4;
+const SENSOR_AT: usize = BCD_AT + 1;
+
+/// Bytes of a tick.
+pub const BYTES: usize = SENSOR_AT + 1;
 
 /// The largest quality byte.
 const LAST_QUALITY: u8 = 2;
@@ -37,9 +42,9 @@ fn tick(bytes: &[u8]) -> Result<Brought, String> {
         }
         brought.readings[at] = Sample { quality: u32::from(place[0]), value: f32::from_bits(number(&place[1..])) };
     }
-    brought.contacts = number(&bytes[30..34]);
-    brought.bcd = bytes[34];
-    brought.sensor = bytes[35];
+    brought.contacts = number(&bytes[CONTACTS_AT..BCD_AT]);
+    brought.bcd = bytes[BCD_AT];
+    brought.sensor = bytes[SENSOR_AT];
     Ok(brought)
 }
 

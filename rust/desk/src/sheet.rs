@@ -8,7 +8,7 @@ use crate::unit::{self, Refusal};
 use crate::value;
 
 /// Bytes of a whole SHEET.
-const BYTES: usize = 4 * SLOTS;
+pub const BYTES: usize = 4 * SLOTS;
 
 /// A sheet that the library takes.
 #[derive(Clone, Debug, PartialEq)]
@@ -42,7 +42,7 @@ pub fn read_binary(file: &File) -> Result<Sheet, Errors> {
     Ok(Sheet { list: draft.list, named: SLOTS })
 }
 
-/// A SHEET of another length is a list that is not 63 long; the library has the word.
+/// A SHEET of another length is a list of another length; the library has the word.
 fn from_bytes(file: &File) -> Result<Draft, Errors> {
     if file.bytes.len() % 4 != 0 {
         let length = file.bytes.len();
@@ -182,7 +182,7 @@ pub fn explain(list: &[u32], refusal: Refusal) -> String {
 
 /// The sheet as text: every slot, with what it means.
 pub fn to_text(list: &[u32]) -> String {
-    let mut text = String::from("# Setting sheet. 63 settings; a line left out takes its default.\n");
+    let mut text = format!("# Setting sheet. {SLOTS} settings; a line left out takes its default.\n");
     for (at, slot) in TABLE.iter().enumerate() {
         let setting = format!("{} = {}", slot.name, value::text(slot, list[at]));
         text.push_str(&format!("{setting:<24}# {}\n", slot.meaning));

@@ -5,6 +5,8 @@ mod common;
 use std::fs;
 
 use common::{avr, err, examples, out, Folder};
+use desk::{recording, sheet};
+use library::SLOTS;
 
 const SCENARIO: &str = "seconds,U_AB,breaker,automatic\n0,98,1,1\n1,100\n2,end\n";
 const DRIVEN: &str = "seconds,U_AB,breaker,automatic,drive\n0,98,1,1,ok\n2,end\n";
@@ -62,8 +64,8 @@ fn a_sheet_is_checked_written_and_shown() {
     let (text, binary) = (folder.write("a.txt", SHEET), folder.path("a.sheet"));
     let output = avr(&["sheet", "check", &text, "-o", &binary]);
     assert_eq!(output.status.code(), Some(0), "{}", err(&output));
-    assert_eq!(out(&output), format!("{text}: taken; 3 settings named, 60 by default\n{binary}: written\n"));
-    assert_eq!(fs::read(&binary).expect("a SHEET").len(), 252);
+    assert_eq!(out(&output), format!("{text}: taken; 3 settings named, {} by default\n{binary}: written\n", SLOTS - 3));
+    assert_eq!(fs::read(&binary).expect("a SHEET").len(), sheet::BYTES);
     let shown = avr(&["sheet", "show", &binary]);
     assert!(out(&shown).contains("\nT1 = 0.5 s "));
     let (again, second) = (folder.write("b.txt", out(&shown)), folder.path("b.sheet"));
@@ -89,7 +91,7 @@ fn a_refused_sheet_writes_nothing() {
 #[test]
 fn a_refused_binary_sheet_is_not_shown() {
     let folder = Folder::new("binary");
-    let zeros = folder.write("zeros", [0; 252]);
+    let zeros = folder.write("zeros", [0; sheet::BYTES]);
     let output = avr(&["sheet", "show", &zeros]);
     assert_eq!((output.status.code(), out(&output).as_str()), (Some(1), ""));
     assert!(err(&output).contains("(refusal 2, slot 19)"));
@@ -103,7 +105,7 @@ fn a_scenario_is_written_and_shown() {
     let (csv, recording) = (folder.write("a.csv", SCENARIO), folder.path("a.rec"));
     let output = avr(&["scenario", "write", &csv, "-o", &recording]);
     assert_eq!(out(&output), format!("{recording}: written, 400 ticks\n"), "{}", err(&output));
-    assert_eq!(fs::read(&recording).expect("a RECORDING").len(), 400 * 36);
+    assert_eq!(fs::read(&recording).expect("a RECORDING").len(), 400 * recording::BYTES);
     let shown = avr(&["scenario", "show", &recording]);
     let wanted = "seconds,U_AB,3U0,U2,I_high,I_bus,I_coupler,breaker,automatic\n0,98,0,0,0,0,0,1,1\n1,100,,,,,,,\n2,end\n";
     assert_eq!(out(&shown), wanted);
@@ -122,7 +124,7 @@ fn a_scenario_with_a_drive_needs_a_sheet() {
     assert_eq!(folder.names(), ["a.csv", "a.txt"]);
     let output = avr(&["scenario", "write", &csv, "-o", &recording, "--sheet", &sheet]);
     assert_eq!(output.status.code(), Some(0), "{}", err(&output));
-    assert_eq!(fs::read(&recording).expect("a RECORDING").len(), 400 * 36);
+    assert_eq!(fs::read(&recording).expect("a RECORDING").len(), 400 * recording::BYTES);
 }
 
 /// The outputs' lines of a table, with the time and tick they stand under.

@@ -4,8 +4,9 @@ mod common;
 
 use common::{bytes, file, Dice};
 use desk::play::{Player, Source};
+use desk::recording::{BYTES, READING_BYTES};
 use desk::{cells, recording, scenario, show};
-use library::{Brought, Sample, FIELDS};
+use library::{Brought, Sample, FIELDS, READINGS};
 
 fn ticks(text: &str) -> Vec<Brought> {
     let scenario = scenario::read(&file(text)).expect("a good scenario");
@@ -135,10 +136,10 @@ fn every_bcd_byte_goes_to_text_and_back() {
 }
 
 #[test]
-fn a_tick_is_36_bytes_in_the_order_of_the_format() {
+fn a_tick_has_its_bytes_in_the_order_of_the_format() {
     let recorded = record(&ticks("ticks,U_AB,3U0,breaker,lower,BCD,sensor\n0,1 held,invalid,1,1,24,9\n1,end"));
     let mut wanted = vec![1, 0, 0, 0x80, 0x3F, 2, 0, 0, 0, 0];
-    wanted.extend([0; 20]);
+    wanted.extend([0; READING_BYTES * (READINGS - 2)]);
     wanted.extend([1, 0, 0x10, 0, 0x24, 9]);
     assert_eq!(recorded, wanted);
 }
@@ -202,9 +203,10 @@ fn all_bad_rows_are_told_at_once() {
 fn bad_recordings_are_told() {
     let told = |bytes_: Vec<u8>| recording::read(&bytes(bytes_)).expect_err("a bad recording");
     assert_eq!(told(Vec::new()), ["file: no tick is recorded in it"]);
-    assert_eq!(told(vec![0; 35]), ["file: tick 1 is cut short: 35 of 36 bytes"]);
-    assert_eq!(told(vec![0; 100]), ["file: tick 3 is cut short: 28 of 36 bytes"]);
-    let mut quality = vec![0; 72];
-    quality[36 + 10] = 7;
+    let short = |tick: usize, got: usize| format!("file: tick {tick} is cut short: {got} of {BYTES} bytes");
+    assert_eq!(told(vec![0; BYTES - 1]), [short(1, BYTES - 1)]);
+    assert_eq!(told(vec![0; 2 * BYTES + 1]), [short(3, 1)]);
+    let mut quality = vec![0; 2 * BYTES];
+    quality[BYTES + 2 * READING_BYTES] = 7;
     assert_eq!(told(quality), ["file: tick 2: U2 has the quality byte 7: 0 Good, 1 Held, 2 Invalid"]);
 }

@@ -148,7 +148,7 @@ fn sheets_go_to_text_and_back() {
         let read = sheet::read(&file(&sheet::to_text(&list))).expect("its own text");
         assert_eq!((read.list, read.named), (list.clone(), SLOTS));
         let binary = bytes(sheet::to_bytes(&list));
-        assert_eq!(binary.bytes.len(), 252);
+        assert_eq!(binary.bytes.len(), sheet::BYTES);
         assert_eq!(sheet::read_binary(&binary).expect("its own bytes").list, list);
         assert_eq!(sheet::read(&binary).expect("a SHEET in place of text").list, list);
     }
@@ -245,16 +245,17 @@ fn the_order_of_the_taps_is_told() {
 
 #[test]
 fn a_list_of_another_length_is_told() {
-    for length in [0, 1, 62, 64, 100] {
+    for length in [0, 1, SLOTS - 1, SLOTS + 1, 2 * SLOTS] {
         let list = vec![0; length];
         let refusal = Refusal { number: 1, slot: 0 };
         assert_eq!(refusals(&list), [refusal]);
-        assert_eq!(explain(&list, refusal), format!("the list has {length} numbers, a sheet has 63 (refusal 1, slot 0)"));
+        assert_eq!(explain(&list, refusal), format!("the list has {length} numbers, a sheet has {SLOTS} (refusal 1, slot 0)"));
     }
-    let told = sheet::read_binary(&bytes(vec![0; 248])).expect_err("62 numbers");
-    assert_eq!(told, ["file: the list has 62 numbers, a sheet has 63 (refusal 1, slot 0)"]);
-    let told = sheet::read(&bytes(vec![0; 251])).expect_err("no numbers");
-    assert_eq!(told, ["file: 251 bytes are no list of 32-bit numbers; a SHEET has 252"]);
+    let (short, odd) = (sheet::BYTES - 4, sheet::BYTES - 1);
+    let told = sheet::read_binary(&bytes(vec![0; short])).expect_err("a number less");
+    assert_eq!(told, [format!("file: the list has {} numbers, a sheet has {SLOTS} (refusal 1, slot 0)", SLOTS - 1)]);
+    let told = sheet::read(&bytes(vec![0; odd])).expect_err("no numbers");
+    assert_eq!(told, [format!("file: {odd} bytes are no list of 32-bit numbers; a SHEET has {}", sheet::BYTES)]);
 }
 
 #[test]
