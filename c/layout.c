@@ -1,0 +1,143 @@
+/*
+ * Holds the layout of avr.h to the bytes that the library reads and writes: what is lent stands between canaries, and a known
+ * sheet and known ticks give a number of its own to each place. Prints a line for each place that differs.
+ */
+#include <stdio.h>
+#include <string.h>
+
+#include "avr.h"
+
+enum { CANARY = 0xA5, ROOM = 64, TICKS = 3 };
+
+/* What is lent, with room on both sides. */
+typedef struct {
+    unsigned char before[ROOM];
+    avr_image image;
+    unsigned char between[ROOM];
+    avr_outputs outputs;
+    unsigned char after[ROOM];
+} lent;
+
+static int wrong = 0;
+
+static void hold(const char *what, uint32_t got, uint32_t wanted) {
+    if (got == wanted) return;
+    printf("layout: %s is %u, and not %u\n", what, got, wanted);
+    wrong = 1;
+}
+
+static void hold_canaries(const char *what, const lent *l) {
+    for (int i = 0; i < ROOM; i++) {
+        if (l->before[i] == CANARY && l->between[i] == CANARY && l->after[i] == CANARY) continue;
+        printf("layout: %s wrote beside what was lent, %d bytes off\n", what, i);
+        wrong = 1;
+        return;
+    }
+}
+
+/* The lowest numbers, but for what the ticks below need: U2's organ with a delay, and a tap that the sensor shows. */
+static void sheet(uint32_t *s) {
+    memset(s, 0, AVR_SLOTS * sizeof *s);
+    s[AVR_SLOT_IN_SERVICE] = 1;
+    s[AVR_SLOT_TAP_SOURCE] = 2;
+    s[AVR_SLOT_ON_U2_OVER_U_SET4] = 1;
+    s[AVR_SLOT_VOLTAGE_ORGANS] = 1;
+    for (int i = AVR_SLOT_U_SUPP1; i <= AVR_SLOT_U_SUPP4; i++) s[i] = 80000;
+    s[AVR_SLOT_D_U] = s[AVR_SLOT_U_COMP] = 1000;
+    for (int i = AVR_SLOT_I_SET1; i <= AVR_SLOT_I_SET3; i++) s[i] = 100;
+    for (int i = AVR_SLOT_U_SET1; i <= AVR_SLOT_U_SET5; i++) s[i] = 5000;
+    for (int i = AVR_SLOT_T1; i <= AVR_SLOT_T5; i++) s[i] = 20;
+    s[AVR_SLOT_T8] = 20;
+    s[AVR_SLOT_T15] = 30;
+    s[AVR_SLOT_N_POS] = 11;
+    s[AVR_SLOT_N_R] = 40;
+    s[AVR_SLOT_N_L] = 2;
+    s[AVR_SLOT_N_START] = 17;
+    s[AVR_SLOT_N_MAX] = 18;
+    s[AVR_SLOT_N10] = 39;
+}
+
+/* High voltage, U2 over its limit, the raise button pressed. */
+static avr_brought brought(void) {
+    avr_brought in;
+    memset(&in, 0, sizeof in);
+    in.u_ab.value = 90.0f;
+    in.u0.quality = in.i_high.quality = in.i_bus.quality = in.i_coupler.quality = AVR_QUALITY_INVALID;
+    in.u2.value = 6.0f;
+    in.contacts = AVR_CONTACT_BREAKER_CLOSED | AVR_CONTACT_AUTOMATIC | AVR_CONTACT_RAISE_BUTTON;
+    in.bcd = 0x12;
+    in.sensor = 13;
+    return in;
+}
+
+static void hold_started(const avr_started *s, const uint32_t *list) {
+    hold("the answer to the sheet", s->number, AVR_ACCEPTED);
+    hold("its slot", s->slot, 0);
+    hold("the settings' difference", memcmp(s->image.settings, list, sizeof s->image.settings) != 0, 0);
+    hold("the fresh counted tap", s->image.counted_tap, list[AVR_SLOT_N_POS]);
+    hold("the fresh operations", s->image.operations, list[AVR_SLOT_N_START]);
+    hold("the fresh raise button", s->image.raise_button, 1);
+    hold("the fresh lower button", s->image.lower_button, 1);
+}
+
+static void hold_image(const avr_image *m, const uint32_t *list) {
+    hold("the settings' difference after ticks", memcmp(m->settings, list, sizeof m->settings) != 0, 0);
+    hold("the first mark", m->organ_marks[0], 0);
+    hold("the last mark", m->organ_marks[AVR_ORGANS - 1], 1);
+    hold("the last count", m->organ_counts[AVR_ORGANS - 1], TICKS);
+    hold("the drive", m->drive.kind, AVR_DRIVE_RESTING);
+    hold("the fault", m->fault, AVR_FAULT_NONE);
+    hold("the wait's side", m->wait.side, AVR_WAIT_HIGH);
+    hold("the wait", m->wait.ticks, TICKS);
+    hold("the repeat", m->repeat, AVR_WAY_NEITHER);
+    hold("the last direction", m->last, AVR_WAY_NEITHER);
+    hold("the counted tap", m->counted_tap, list[AVR_SLOT_N_POS]);
+    hold("the operations", m->operations, list[AVR_SLOT_N_START]);
+    hold("the raise button", m->raise_button, 1);
+    hold("the lower button", m->lower_button, 0);
+}
+
+/* Ticks between canaries; then the same by value. */
+static void hold_ticks(lent *l, const uint32_t *list) {
+    avr_brought in = brought();
+    avr_ticked by_value = {0};
+    by_value.next = l->image;
+    for (int i = 0; i < TICKS; i++) {
+        memset(&l->outputs, CANARY, sizeof l->outputs);
+        hold("the answer to a tick", avr_tick(&l->image, &in, &l->outputs), AVR_ACCEPTED);
+        by_value = avr_tick_by_value(by_value.next, in);
+    }
+    hold_canaries("a tick", l);
+    hold_image(&l->image, list);
+    hold("output tap", l->outputs.fields[AVR_OUT_TAP], in.sensor);
+    hold("output high", l->outputs.fields[AVR_OUT_HIGH], 1);
+    hold("the last output", l->outputs.fields[AVR_FIELDS - 1], 1);
+    hold("the answer by value", by_value.refusal, AVR_ACCEPTED);
+    hold("the outputs' difference by value", memcmp(&by_value.outputs, &l->outputs, sizeof l->outputs) != 0, 0);
+    hold("the image's difference by value", memcmp(&by_value.next, &l->image, sizeof l->image) != 0, 0);
+}
+
+/* A refused tick writes 0 to each output, and nothing else. */
+static void hold_refused(lent *l) {
+    avr_brought in = brought();
+    l->image.lower_button = 2;
+    avr_image before = l->image;
+    memset(&l->outputs, CANARY, sizeof l->outputs);
+    hold("the answer to no record's image", avr_tick(&l->image, &in, &l->outputs), AVR_REFUSED_IMAGE);
+    hold_canaries("a refused tick", l);
+    hold("the refused image's difference", memcmp(&before, &l->image, sizeof before) != 0, 0);
+    for (int i = 0; i < AVR_FIELDS; i++) hold("an output of a refused tick", l->outputs.fields[i], 0);
+}
+
+int main(void) {
+    uint32_t list[AVR_SLOTS];
+    sheet(list);
+    avr_started s = avr_start(list, AVR_SLOTS);
+    hold_started(&s, list);
+    lent l;
+    memset(&l, CANARY, sizeof l);
+    l.image = s.image;
+    hold_ticks(&l, list);
+    hold_refused(&l);
+    return wrong;
+}
