@@ -5,7 +5,7 @@ mod sources;
 use desk::inputs::CONTACTS;
 use desk::names::TABLE;
 use desk::outputs::SHORT;
-use sources::{between, c_fields, constants, define, fields, find, read, rows, Field, Row};
+use sources::{between, c_fields, constants, define, fields, find, paths, read, rows, Field, Row};
 
 /// Capitals, with `_` for all that is no letter or digit: `run-away` is `RUN_AWAY`.
 fn capitals(words: &str) -> String {
@@ -155,10 +155,9 @@ fn the_desk_tools_outputs_are_the_librarys() {
     }
 }
 
-/// The numbers of lengths that the library's structs name.
+/// The numbers that the library's sources name, and that a length in a struct may name.
 fn named_counts() -> Vec<(String, usize)> {
-    let sources = ["slots", "showing", "organ", "record", "image"];
-    sources.iter().flat_map(|name| constants(&read(&format!("crates/{name}/src/lib.rt")))).collect()
+    paths("crates", ".rt").iter().flat_map(|path| constants(&read(path))).collect()
 }
 
 /// The structs of the boundary: the source, the name there, in C and in Rust.

@@ -2,12 +2,27 @@
 #![allow(dead_code)]
 
 use std::fs;
-use std::path::Path;
+use std::path::{Path, PathBuf};
+
+/// A place in the repository.
+fn place(path: &str) -> PathBuf {
+    Path::new(env!("CARGO_MANIFEST_DIR")).join("../..").join(path)
+}
 
 /// A file of the repository.
 pub fn read(path: &str) -> String {
-    let root = Path::new(env!("CARGO_MANIFEST_DIR")).join("../..");
-    fs::read_to_string(root.join(path)).unwrap_or_else(|error| panic!("{path}: {error}"))
+    fs::read_to_string(place(path)).unwrap_or_else(|error| panic!("{path}: {error}"))
+}
+
+/// The files below a folder of the repository whose names end so.
+pub fn paths(folder: &str, end: &str) -> Vec<String> {
+    let entries = fs::read_dir(place(folder)).unwrap_or_else(|error| panic!("{folder}: {error}"));
+    let names = entries.map(|entry| entry.expect("an entry").file_name().into_string().expect("a plain name"));
+    let below = |path: String| match place(&path).is_dir() {
+        true => paths(&path, end),
+        false => vec![path],
+    };
+    names.map(|name| format!("{folder}/{name}")).flat_map(below).filter(|path| path.ends_with(end)).collect()
 }
 
 /// What stands between two marks.
