@@ -15,7 +15,7 @@ const CLOSED: u32 = 1 << bit::SWITCHING;
 const AUTOMATIC: u32 = 1 << bit::AUTOMATIC;
 const RAISE_BUTTON: u32 = 1 << bit::RAISE_BUTTON;
 
-/// A unit on the bench, with the second program beside it.
+/// A unit, with the second program beside it.
 struct Unit {
     image: Image,
     record: Record,
