@@ -51,7 +51,7 @@ static int refusals(avr_image image, const avr_brought *in, const uint32_t *list
     none.fault = AVR_FAULT_FAST + 1; /* no record's image */
     int both = refused("operations 1000000", far, in) & refused("fault 5", none, in);
     avr_started t = avr_start(list, AVR_SLOTS - 1);
-    printf("a list of %d: number %u, slot %u\n", AVR_SLOTS - 1, t.number, t.slot);
+    printf("a list too short: number %u, slot %u\n", t.number, t.slot);
     return both && t.number == AVR_REFUSED_LENGTH ? 0 : 1;
 }
 

@@ -3,7 +3,7 @@
 mod common;
 
 use common::{bytes, defaults, file, Dice};
-use desk::names::{Kind, ABSENT, N_L, N_POS, N_R, TABLE};
+use desk::names::{Kind, ABSENT, MODULE, N_L, N_POS, N_R, TABLE};
 use desk::sheet::{self, explain, refusals};
 use desk::unit::{start, Refusal};
 use desk::{decimal, value};
@@ -42,7 +42,7 @@ fn edges(slot: usize, module: u32) -> Vec<u32> {
 #[test]
 fn the_table_of_names_agrees_with_the_library_at_every_edge() {
     for module in [0, 1] {
-        for slot in (0..SLOTS).filter(|slot| *slot != 1) {
+        for slot in (0..SLOTS).filter(|slot| *slot != MODULE) {
             for number in edges(slot, module) {
                 let mut list = defaults(module);
                 list[slot] = number;
@@ -63,8 +63,8 @@ fn the_module_takes_0_and_1() {
     }
     for number in [2, 5, u32::MAX] {
         let mut list = defaults(0);
-        list[1] = number;
-        assert_eq!(start(&list).err(), Some(Refusal { number: 2, slot: 1 }));
+        list[MODULE] = number;
+        assert_eq!(start(&list).err(), Some(Refusal { number: 2, slot: MODULE as u32 }));
     }
 }
 
@@ -133,7 +133,7 @@ fn chance(dice: &mut Dice) -> Vec<u32> {
             low + slot.step * dice.below((high - low) / slot.step + 1)
         })
         .collect();
-    list[1] = module;
+    list[MODULE] = module;
     list[N_L] = 1 + dice.below(20);
     list[N_R] = list[N_L] + 1 + dice.below(40 - list[N_L]);
     list[N_POS] = list[N_L] + dice.below(list[N_R] - list[N_L] + 1);

@@ -6,7 +6,7 @@ use std::path::{Path, PathBuf};
 use std::process::{Command, Output};
 
 use desk::file::File;
-use desk::names::TABLE;
+use desk::names::{MODULE, TABLE};
 
 pub fn file(text: &str) -> File {
     File { name: "file".to_string(), bytes: text.as_bytes().to_vec() }
@@ -19,7 +19,7 @@ pub fn bytes(bytes: Vec<u8>) -> File {
 /// The sheet of defaults, for a 1 A or a 5 A module.
 pub fn defaults(module: u32) -> Vec<u32> {
     let mut list: Vec<u32> = TABLE.iter().map(|slot| slot.default_for(module)).collect();
-    list[1] = module;
+    list[MODULE] = module;
     list
 }
 
