@@ -143,10 +143,5 @@ pub fn brought(input: &Input, dice: &mut Dice) -> Brought {
             Sample { quality: (dice.bits() >> dice.between(0, 31)).max(INVALID), value: f32::from_bits(dice.bits()) }
         }
     };
-    Brought {
-        readings: [input.u_ab, input.u_zero, input.u_negative, input.i_high, input.i_bus, input.i_coupler].map(sample),
-        contacts: input.contacts.0,
-        bcd: input.bcd,
-        sensor: input.sensor,
-    }
+    Brought { readings: input.readings().map(sample), contacts: input.contacts.0, bcd: input.bcd, sensor: input.sensor }
 }

@@ -4,7 +4,7 @@
 use comparison::convert::{brought, image_of};
 use library::{start, tick, Image, Outputs, FIELDS};
 use reference::dice::Dice;
-use reference::input::{bit, Contacts, Input};
+use reference::input::{bit, Input, READINGS};
 use reference::reading::Reading;
 use reference::record::{Record, ORGANS};
 use reference::sheet::slot;
@@ -59,17 +59,8 @@ impl Unit {
 
 /// A tick with this U_AB, the breaker closed, and these contacts.
 fn volts(u_ab: f32, contacts: u32) -> Input {
-    Input {
-        u_ab: Reading::Good(u_ab),
-        u_zero: Reading::Invalid,
-        u_negative: Reading::Invalid,
-        i_high: Reading::Invalid,
-        i_bus: Reading::Invalid,
-        i_coupler: Reading::Invalid,
-        contacts: Contacts(BREAKER | contacts),
-        bcd: 0,
-        sensor: 0,
-    }
+    let input = Input::of([Reading::Invalid; READINGS], BREAKER | contacts, 0, 0);
+    Input { u_ab: Reading::Good(u_ab), ..input }
 }
 
 /// A raise begun after T1 = 20 low ticks.

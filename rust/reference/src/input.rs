@@ -26,7 +26,13 @@ pub struct Input {
 }
 
 impl Input {
-    /// The readings, in the order in which a recording has them.
+    /// What a tick brings, its readings in the order of a recording.
+    pub fn of(readings: [Reading; READINGS], contacts: u32, bcd: u8, sensor: u8) -> Input {
+        let [u_ab, u_zero, u_negative, i_high, i_bus, i_coupler] = readings;
+        Input { u_ab, u_zero, u_negative, i_high, i_bus, i_coupler, contacts: Contacts(contacts), bcd, sensor }
+    }
+
+    /// The readings in that order.
     pub fn readings(&self) -> [Reading; READINGS] {
         [self.u_ab, self.u_zero, self.u_negative, self.i_high, self.i_bus, self.i_coupler]
     }

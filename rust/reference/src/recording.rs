@@ -1,6 +1,6 @@
 //! The files: sheets and recordings, numbers with their least byte first.
 
-use crate::input::{Contacts, Input, READINGS};
+use crate::input::{Input, READINGS};
 use crate::reading::Reading;
 use crate::sheet::{Settings, SLOTS};
 
@@ -45,18 +45,8 @@ pub fn tick_from_bytes(bytes: &[u8; TICK_BYTES]) -> Result<Input, BadQuality> {
     for (i, reading) in readings.iter_mut().enumerate() {
         *reading = reading_at(bytes, i * READING_BYTES)?;
     }
-    let [u_ab, u_zero, u_negative, i_high, i_bus, i_coupler] = readings;
-    Ok(Input {
-        u_ab,
-        u_zero,
-        u_negative,
-        i_high,
-        i_bus,
-        i_coupler,
-        contacts: Contacts(number(&bytes[CONTACTS_AT..BCD_AT])),
-        bcd: bytes[BCD_AT],
-        sensor: bytes[SENSOR_AT],
-    })
+    let contacts = number(&bytes[CONTACTS_AT..BCD_AT]);
+    Ok(Input::of(readings, contacts, bytes[BCD_AT], bytes[SENSOR_AT]))
 }
 
 fn reading_at(bytes: &[u8; TICK_BYTES], at: usize) -> Result<Reading, BadQuality> {

@@ -1,7 +1,7 @@
 //! A regulator in a simulated substation, tick after tick.
 
 use crate::dice::Dice;
-use crate::input::{bit, Contacts, Input, CONTACTS};
+use crate::input::{bit, Input, CONTACTS, READINGS};
 use crate::make_sheet;
 use crate::plant::Plant;
 use crate::reading::{thousandths, Reading};
@@ -53,19 +53,10 @@ impl Scene {
         if self.dice.one_in(100) {
             self.stretch.others = others(&mut self.dice, &settings);
         }
-        let [zero, negative, high, bus, coupler] = self.stretch.others;
-        let u_ab = self.u_ab(&settings, contacts);
-        Input {
-            u_ab: self.reading(u_ab),
-            u_zero: self.reading(zero),
-            u_negative: self.reading(negative),
-            i_high: self.reading(high),
-            i_bus: self.reading(bus),
-            i_coupler: self.reading(coupler),
-            contacts: Contacts(contacts),
-            bcd: self.bcd(),
-            sensor: self.sensor(),
-        }
+        let mut numbers = [self.u_ab(&settings, contacts); READINGS];
+        numbers[1..].copy_from_slice(&self.stretch.others);
+        let readings = numbers.map(|number| self.reading(number));
+        Input::of(readings, contacts, self.bcd(), self.sensor())
     }
 
     /// The steady contacts, the drive's, the buttons, reset, and flips.
@@ -115,7 +106,7 @@ impl Scene {
             Level::FromSlot(slot, by) => i64::from(settings[slot]) + by,
             Level::Wander => support - 2 * half + i64::from(self.dice.between(0, 4 * half as u32)),
         };
-        let [_, _, _, bus, coupler] = self.stretch.others.map(i64::from);
+        let [_, _, _, bus, coupler, ..] = self.stretch.others.map(i64::from);
         let current = match settings[slot::COMPENSATION_CURRENT] {
             0 => bus,
             1 => coupler,

@@ -1,7 +1,7 @@
 //! Stretches of ticks during which little changes.
 
 use crate::dice::Dice;
-use crate::input::bit;
+use crate::input::{bit, READINGS};
 use crate::plant::{Temper, TEMPERS};
 use crate::reading::amp_limit;
 use crate::sheet::{module_k, slot, Settings};
@@ -33,8 +33,8 @@ pub struct Stretch {
     pub level: Level,
     pub temper: Temper,
     pub buttons: Buttons,
-    /// 3U0, U2, I_high, I_bus, I_coupler in whole thousandths.
-    pub others: [u32; 5],
+    /// The readings after U_AB, in whole thousandths.
+    pub others: [u32; READINGS - 1],
     /// One tick in so many has a spoiled reading or tap byte.
     pub noise: u32,
     /// One tick in so many has a flipped contact.
@@ -105,7 +105,7 @@ fn buttons(dice: &mut Dice) -> Buttons {
 }
 
 /// 3U0, U2, I_high, I_bus and I_coupler, calm or near what trips.
-pub fn others(dice: &mut Dice, settings: &Settings) -> [u32; 5] {
+pub fn others(dice: &mut Dice, settings: &Settings) -> [u32; READINGS - 1] {
     let k = module_k(settings);
     let top = 1_000 * amp_limit(k);
     let bus = match dice.between(0, 5) {

@@ -2,7 +2,7 @@
 
 use std::io::{self, Write};
 
-use crate::input::{Contacts, Input};
+use crate::input::{Input, READINGS};
 use crate::reading::{thousandths, Reading};
 use crate::record::Record;
 use crate::sheet::{check, slot, Settings, SLOTS};
@@ -129,17 +129,7 @@ fn print_bcd(out: &mut impl Write) -> io::Result<()> {
 
 /// A tick that brings nothing but BCD lines.
 fn with_bcd(bcd: u8) -> Input {
-    Input {
-        u_ab: Reading::Invalid,
-        u_zero: Reading::Invalid,
-        u_negative: Reading::Invalid,
-        i_high: Reading::Invalid,
-        i_bus: Reading::Invalid,
-        i_coupler: Reading::Invalid,
-        contacts: Contacts(0),
-        bcd,
-        sensor: 0,
-    }
+    Input::of([Reading::Invalid; READINGS], 0, bcd, 0)
 }
 
 fn print_readings(out: &mut impl Write) -> io::Result<()> {

@@ -1,7 +1,7 @@
 //! What must hold on every tick, over many chance ones.
 
 use reference::dice::Dice;
-use reference::input::{bit, Contacts, Input};
+use reference::input::{bit, Input, READINGS};
 use reference::make_sheet;
 use reference::reading::Reading;
 use reference::record::{within_limits, Direction, Drive, Fault, Organ, Record, Side, Wait, ORGANS};
@@ -82,17 +82,8 @@ fn any_input(dice: &mut Dice) -> Input {
         true => dice.bits(),
         false => dice.bits() & !blocking,
     };
-    Input {
-        u_ab: any_reading(dice),
-        u_zero: any_reading(dice),
-        u_negative: any_reading(dice),
-        i_high: any_reading(dice),
-        i_bus: any_reading(dice),
-        i_coupler: any_reading(dice),
-        contacts: Contacts(contacts & !(1 << bit::OUT)),
-        bcd: dice.bits() as u8,
-        sensor: dice.between(0, 45) as u8,
-    }
+    let readings = [(); READINGS].map(|()| any_reading(dice));
+    Input::of(readings, contacts & !(1 << bit::OUT), dice.bits() as u8, dice.between(0, 45) as u8)
 }
 
 /// Low end, high end, or anything between.

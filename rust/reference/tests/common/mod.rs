@@ -2,7 +2,7 @@
 
 #![allow(dead_code)]
 
-use reference::input::{bit, Contacts, Input};
+use reference::input::{bit, Input, READINGS};
 use reference::reading::Reading;
 use reference::record::Record;
 use reference::scene::float_of;
@@ -32,17 +32,8 @@ pub fn fresh(changes: &[(usize, u32)]) -> Record {
 
 /// Breaker closed, manual, the voltage in the band, all organs quiet.
 pub fn calm() -> Input {
-    Input {
-        u_ab: good(100_000),
-        u_zero: good(0),
-        u_negative: good(0),
-        i_high: good(500),
-        i_bus: good(500),
-        i_coupler: good(0),
-        contacts: Contacts(1 << bit::BREAKER_CLOSED),
-        bcd: 0x20,
-        sensor: 20,
-    }
+    let input = Input::of([good(0); READINGS], 1 << bit::BREAKER_CLOSED, 0x20, 20);
+    Input { u_ab: good(100_000), i_high: good(500), i_bus: good(500), ..input }
 }
 
 /// Calm, with these contacts besides the breaker.
