@@ -13,7 +13,7 @@ use desk::play::{Player, Source};
 use desk::progress::{line, Progress};
 use desk::unit::start;
 use desk::{run, scenario, sheet};
-use library::{Brought, Sample};
+use library::{Brought, Sample, READINGS};
 
 /// A sheet in service with four different voltages to hold.
 fn four_voltages() -> Vec<u32> {
@@ -64,7 +64,7 @@ fn a_run_of_one_tick_and_readings_of_every_kind_can_be_drawn() {
     for value in [f32::NAN, f32::INFINITY, -1.0, 0.0, 1e30] {
         for quality in [0, 1, 2] {
             let mut brought = tick(0.0, 1);
-            brought.readings = [Sample { quality, value }; 6];
+            brought.readings = [Sample { quality, value }; READINGS];
             let unit = start(&list).expect("taken");
             let history = run::run(unit, Source::Recording(&[brought]), &mut Progress::usual(), |_| ()).expect("a run");
             let text = picture(&history, &list, "one tick");
