@@ -167,7 +167,7 @@ enum avr_out {
 
 /* What a sheet or a tick is answered. */
 enum avr_answer {
-    AVR_ACCEPTED = 0,
+    AVR_ACCEPTED = 0,          /* a sheet that is taken, a tick that ran */
     AVR_REFUSED_LENGTH = 1,    /* a list that has not AVR_SLOTS numbers */
     AVR_REFUSED_RANGE = 2,     /* a slot out of its range */
     AVR_REFUSED_TAP_ORDER = 3, /* N_R not above N_L, or N_pos outside them */
@@ -176,14 +176,14 @@ enum avr_answer {
 
 /* The quality of a reading. */
 enum avr_quality {
-    AVR_QUALITY_GOOD = 0,
+    AVR_QUALITY_GOOD = 0,   /* measured now */
     AVR_QUALITY_HELD = 1,   /* an older number: it feeds the organs only */
     AVR_QUALITY_INVALID = 2 /* as is every number above; the value is not looked at */
 };
 
 /* What the drive does. */
 enum avr_drive_kind {
-    AVR_DRIVE_RESTING = 0,
+    AVR_DRIVE_RESTING = 0,        /* neither asked nor moving */
     AVR_DRIVE_ASKED = 1,          /* a command is on and the contact has not closed yet */
     AVR_DRIVE_COMMANDED_MOVE = 2, /* the contact is closed after a command */
     AVR_DRIVE_OWN_MOVE = 3        /* the drive goes on by itself from a sliding tap */
@@ -191,20 +191,20 @@ enum avr_drive_kind {
 
 /* Where a command or a move goes. */
 enum avr_direction {
-    AVR_DIRECTION_RAISE = 0,
-    AVR_DIRECTION_LOWER = 1
+    AVR_DIRECTION_RAISE = 0, /* to a higher voltage */
+    AVR_DIRECTION_LOWER = 1  /* to a lower voltage */
 };
 
 /* A direction, or none. */
 enum avr_way {
-    AVR_WAY_NEITHER = 0,
-    AVR_WAY_RAISE = 1,
-    AVR_WAY_LOWER = 2
+    AVR_WAY_NEITHER = 0, /* there was none */
+    AVR_WAY_RAISE = 1,   /* AVR_DIRECTION_RAISE */
+    AVR_WAY_LOWER = 2    /* AVR_DIRECTION_LOWER */
 };
 
 /* The latched fault of the drive. */
 enum avr_fault {
-    AVR_FAULT_NONE = 0,
+    AVR_FAULT_NONE = 0,        /* no fault is latched */
     AVR_FAULT_RUN_AWAY = 1,    /* the contact closed without a command */
     AVR_FAULT_NOT_STARTED = 2, /* the contact did not close within T5 */
     AVR_FAULT_LONG = 3,        /* closed for more than T4 */
@@ -213,9 +213,9 @@ enum avr_fault {
 
 /* To which side a wait runs. */
 enum avr_wait_side {
-    AVR_WAIT_NONE = 0,
-    AVR_WAIT_LOW = 1, /* U is low; a raise answers it */
-    AVR_WAIT_HIGH = 2 /* U is high; a lower answers it */
+    AVR_WAIT_NONE = 0, /* no wait runs */
+    AVR_WAIT_LOW = 1,  /* U is low; a raise answers it */
+    AVR_WAIT_HIGH = 2  /* U is high; a lower answers it */
 };
 
 /* At rest all three numbers are 0. */

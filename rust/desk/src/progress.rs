@@ -23,7 +23,7 @@ impl Progress {
     }
 
     pub fn tick(&mut self, tick: u32, of: u32) {
-        if tick % LOOK == 0 && Instant::now() >= self.next {
+        if tick.is_multiple_of(LOOK) && Instant::now() >= self.next {
             self.next = Instant::now() + self.patience / 2;
             self.shown = true;
             eprint!("\r{}", line(tick, of));

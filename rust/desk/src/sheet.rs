@@ -44,7 +44,7 @@ pub fn read_binary(file: &File) -> Result<Sheet, Errors> {
 
 /// A SHEET of another length is a list of another length; the library has the word.
 fn from_bytes(file: &File) -> Result<Draft, Errors> {
-    if file.bytes.len() % 4 != 0 {
+    if !file.bytes.len().is_multiple_of(4) {
         let length = file.bytes.len();
         return Err(vec![file.says(&format!("{length} bytes are no list of 32-bit numbers; a SHEET has {BYTES}"))]);
     }

@@ -26,7 +26,7 @@ fn slot_of(text: &str, slot: usize) -> u32 {
 /// Whether the table of names takes a number.
 fn table_takes(slot: usize, module: u32, number: u32) -> bool {
     let (low, high) = TABLE[slot].bounds(module);
-    (low..=high).contains(&number) && (number - low) % TABLE[slot].step == 0
+    (low..=high).contains(&number) && (number - low).is_multiple_of(TABLE[slot].step)
 }
 
 /// Numbers at and around the edges of a slot.
