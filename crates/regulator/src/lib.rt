@@ -196,13 +196,13 @@ fn live(r: Regulator, i: Input, c: Contacts) -> Ticked
     let y = act(r, c, x);
     let shown = shown_of(c, x, y);
     let outputs = showing::show(&s, shown);
-    let next = next_of(r, c, x, y);
+    let after = next_of(r, c, x, y);
     Ticked {
         reply: Reply {
             refusal: 0,
             outputs: outputs,
         },
-        next: next,
+        next: after,
     }
 }
 
