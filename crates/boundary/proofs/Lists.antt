@@ -25,7 +25,7 @@ use Rattle.image.specs.Bringing.{inputOf}
 use Rattle.image.proofs.Whole.{back}
 use Rattle.boundary.specs.Hosting.{tickedImage, advancedOf, refusedImage, isAccepted, imageTickOf}
 use Rattle.boundary.specs.Lists.{imageSeen, imageTicksFrom, imageRests, imageOpening}
-use Rattle.boundary.proofs.Refused.{Refused, refused-kept}
+use Rattle.claim.proofs.Refused.{Refused, refused-kept}
 
 -- the ticks of a list on m that opens as a call's does
 abbrev pub ticksOn : Image → List Brought → List Tick

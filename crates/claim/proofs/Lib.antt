@@ -1,3 +1,5 @@
+pub mod Lists
+pub mod Refused
 pub mod Shut
 pub mod Ticks
 pub mod Worked

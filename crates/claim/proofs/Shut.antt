@@ -13,7 +13,8 @@ use Rattle.ways.specs.declared.Direction.{Direction}
 use Rattle.ways.specs.declared.Direction.the-variants.{Raise, Lower}
 use Rattle.claim.specs.Claim.{Tick, Opening, All, Begins, Command, Lasting, Waiting, BeganAtZero, InForce, Serves, Kept, closed}
 use Rattle.claim.specs.Scenes.{variedSheet}
-use Rattle.claim.proofs.Ticks.{shows, tickOn, openContact, closedContact, inBand, low, waits, raises, asked, moves, ends, high, zero-one, one-zero, low-lasts, low-waiting, high-waiting, band-not, raises-begins, all-same, all-join, some-none}
+use Rattle.claim.proofs.Lists.{all-same, all-join, some-none}
+use Rattle.claim.proofs.Ticks.{shows, tickOn, openContact, closedContact, inBand, low, waits, raises, asked, moves, ends, high, zero-one, one-zero, low-lasts, low-waiting, high-waiting, band-not, raises-begins}
 
 -- a list begins on a record within its limits, or not, that holds these waits
 abbrev begun : (within : Bool) (lowWait highWait : ℕ) → Opening

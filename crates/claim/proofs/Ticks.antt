@@ -1,18 +1,16 @@
 -- Ticks of worked lists, by all that can be seen of them, and what they are in the words of demand 3. The sheet is `variedSheet`: T1 23,
 -- T2 25, T3 21, T4 24, T5 22, T6 3.
 -- Assumes nothing.
-use Prim.Native.Nat.{ℕ, zero, suc}
+use Prim.Native.Nat.{ℕ}
 use native.Mathlib.Omega.{arith}
 use mathlib.Core.Path.{_≡_, refl}
 use mathlib.Core.Bool.{Bool, true, false, false≢true}
-use mathlib.Core.List.{List, [], _∷_, _++_}
-use mathlib.Core.Logic.{_⊎_, inl, inr}
+use mathlib.Core.List.{List, [], _∷_}
 use lib.ListN.{replicate, set}
 use Rattle.showing.specs.Showing.{fieldCount}
-use Rattle.ways.specs.declared.Direction.{Direction}
 use Rattle.ways.specs.declared.Direction.the-variants.{Raise, Lower}
 use Rattle.input.specs.Brought.{bitOf}
-use Rattle.claim.specs.Claim.{Tick, All, Some, Begins, Command, Lasting, Waiting}
+use Rattle.claim.specs.Claim.{Tick, Begins, Lasting, Waiting}
 use Rattle.claim.specs.Scenes.{variedSheet}
 
 -- ---- ticks
@@ -134,17 +132,3 @@ ends-not w = false≢true (w .rest)
 
 pub raises-begins : (delay : ℕ) → Begins Raise (raises delay)
 raises-begins delay = record { accepted = refl; fromRest = refl; on = refl }
-
--- ---- lists of them
-
-pub all-same : (P : Tick → Type 0) (n : ℕ) (t : Tick) → P t → All P (replicate n t)
-all-same P zero t p = tt
-all-same P (suc n) t p = (p, all-same P n t p)
-
-pub all-join : (P : Tick → Type 0) (a b : List Tick) → All P a → All P b → All P (a ++ b)
-all-join P [] b p q = q
-all-join P (t ∷ a) b p q = (p .0, all-join P a b (p .1) q)
-
-pub some-none : (P : Tick → Type 0) (l : List Tick) → All (λ t. P t → ⊥) l → Some P l → ⊥
-some-none P (t ∷ l) n (inl p) = n .0 p
-some-none P (t ∷ l) n (inr s) = some-none P l (n .1) s

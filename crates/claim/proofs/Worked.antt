@@ -11,7 +11,8 @@ use Rattle.common.specs.Choice.{choose}
 use Rattle.ways.specs.declared.Direction.the-variants.{Raise, Lower}
 use Rattle.claim.specs.Claim.{Tick, Opening, All, Some, Begins, Command, Lasting, Waiting, BeganAtZero, InForce, longest, output, modeField, blockField, Serves, Kept, closed}
 use Rattle.claim.specs.Scenes.{sheetOf, variedSheet}
-use Rattle.claim.proofs.Ticks.{shows, tickOn, openContact, closedContact, inBand, waits, raises, asked, moves, ends, high, zero-one, low-lasts, low-waiting, high-waiting, band-not, ends-not, raises-begins, all-same, all-join}
+use Rattle.claim.proofs.Lists.{all-join, all-last, all-same}
+use Rattle.claim.proofs.Ticks.{shows, tickOn, openContact, closedContact, inBand, waits, raises, asked, moves, ends, high, zero-one, low-lasts, low-waiting, high-waiting, band-not, ends-not, raises-begins}
 
 -- ---- the lists
 
@@ -116,14 +117,10 @@ under-t3 k =
 pub not-at-zero : BeganAtZero Raise waitingOpening [] → ⊥
 not-at-zero e = omega arith
 
-last-of : (P : Tick → Type 0) (a : List Tick) (t : Tick) → All P (a ++ (t ∷ [])) → P t
-last-of P [] t p = p .0
-last-of P (u ∷ a) t p = last-of P a t (p .1)
-
 pub unblocked : Kept waitingOpening waitingList → (output 13 (raises 23) ≡ 0) × (output 15 (raises 23) ≡ 0)
 unfolding choose
 unblocked k =
-    last-of (λ t. Begins Raise t → (output (modeField (t .contacts)) t ≡ 0) × (output (blockField Raise) t ≡ 0)) (replicate 12 (waits 23)) (raises 23)
+    all-last (λ t. Begins Raise t → (output (modeField (t .contacts)) t ≡ 0) × (output (blockField Raise) t ≡ 0)) (replicate 12 (waits 23)) (raises 23)
     (k .unblocked Raise) (raises-begins 23)
 
 -- ---- a list that is refused from end to end

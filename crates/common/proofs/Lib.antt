@@ -3,3 +3,4 @@ pub mod Done
 pub mod Fill
 pub mod Joined
 pub mod Places
+pub mod Walks

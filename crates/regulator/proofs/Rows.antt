@@ -13,6 +13,7 @@ use Rattle.record.specs.declared.Regulator.{Regulator}
 use Rattle.record.specs.Limits.{withinOf}
 use Rattle.common.specs.Choice.{choose}
 use Rattle.claim.specs.Claim.{Tick, All, Some, Begins, Lasting, Waiting, BeganAtZero, InForce, longest, closed}
+use Rattle.claim.proofs.Lists.{all-join, all-map}
 use Rattle.regulator.specs.Lists.{ticksFrom, delayIn, opening}
 use Rattle.regulator.proofs.Steps.{tickAt, nextAt, restAt, waitTo, Linked, accepted-is, accepted-within, settings-kept, within-kept, linked-kept}
 use Rattle.regulator.proofs.Waits.{begun-moves, force-is, force-least, force-most, wait-step, wait-or-zero, no-wait-is}
@@ -52,24 +53,6 @@ cut rest r (i ∷ is) (t ∷ a) b e =
     }
 
 module _ (P : Tick → Type 0) where
-  pub all-front : (a b : List Tick) → All P (a ++ b) → All P a
-  all-front [] b h = tt
-  all-front (t ∷ a) b h = (h .0, all-front a b (h .1))
-
-  pub all-back : (a b : List Tick) → All P (a ++ b) → All P b
-  all-back [] b h = h
-  all-back (t ∷ a) b h = all-back a b (h .1)
-
-  pub some-back : (a b : List Tick) → Some P b → Some P (a ++ b)
-  some-back [] b h = h
-  some-back (t ∷ a) b h = inr (some-back a b h)
-
-  -- a property that is decided at each tick holds of some, or of none
-  pub some-or-none : ((t : Tick) → P t ⊎ (P t → ⊥)) → (l : List Tick) → Some P l ⊎ All (λ t. P t → ⊥) l
-  some-or-none d [] = inr tt
-  some-or-none d (t ∷ l) =
-      ⊎-elim (λ p. inl (inl p)) (λ n. ⊎-elim (λ h. inl (inr h)) (λ h. inr (n, h)) (some-or-none d l)) (d t)
-
   -- what every tick of a list on any record has
   pub all-ticks : ((rest : Bool) (r : Regulator) (i : Input) → Linked rest r → P (tickAt rest r i)) →
       (rest : Bool) (r : Regulator) (is : List Input) → Linked rest r → All P (ticksFrom rest r is)
@@ -79,10 +62,6 @@ module _ (P : Tick → Type 0) where
 pub length-ticks : (rest : Bool) (r : Regulator) (is : List Input) → length (ticksFrom rest r is) ≡ length is
 length-ticks rest r [] = refl
 length-ticks rest r (i ∷ is) = ap suc (length-ticks (restAt r i) (nextAt r i) is)
-
-pub all-map : {P Q : Tick → Type 0} (l : List Tick) → ((t : Tick) → P t → Q t) → All P l → All Q l
-all-map [] f h = tt
-all-map (t ∷ l) f h = (f t (h .0), all-map l f (h .1))
 
 -- What the ticks keep.
 pub linked-step : (rest : Bool) (r : Regulator) (i : Input) → Linked (restAt r i) (nextAt r i)
@@ -177,10 +156,6 @@ pub refused-of : (v : Bool) (rest : Bool) (r : Regulator) (is : List Input) → 
 refused-of v rest r [] h = tt
 refused-of v rest r (i ∷ is) h = (accepted-is r i ∙ ap (λ (b : Bool). choose b 0 4) h, refused-of v (restAt r i) (nextAt r i) is (within-kept r i ∙ h))
 
-pub all-last : (P : Tick → Type 0) (a : List Tick) (t : Tick) → All P a → P t → All P (a ++ (t ∷ []))
-all-last P [] t h p = (p, tt)
-all-last P (u ∷ a) t h p = (h .0, all-last P a t (h .1) p)
-
 module _ (d : Direction) (rest : Bool) (r : Regulator) (is : List Input) (k : Linked rest r) where
   pub latest-of :
       (pre front : List Tick) (t : Tick) (post : List Tick) → ticksFrom rest r is ≡ pre ++ (front ++ (t ∷ post)) →
@@ -191,7 +166,7 @@ module _ (d : Direction) (rest : Bool) (r : Regulator) (is : List Input) (k : Li
       let rest₁ = restAfter rest r (c .front) in
       let b = cut rest₁ r₁ (c .back) (front ++ (t ∷ [])) post (sym (c .isBack) ∙ sym (append-assoc front (t ∷ []) post)) in
       let row = b .front in
-      let all : All (Waiting d) (ticksFrom rest₁ r₁ row) = subst (All (Waiting d)) (b .isFront) (all-last (Waiting d) front t a w) in
+      let all : All (Waiting d) (ticksFrom rest₁ r₁ row) = subst (All (Waiting d)) (b .isFront) (all-join (Waiting d) front (t ∷ []) a (w, tt)) in
       let m : length front + 1 ≡ length row =
       sym (length-append front (t ∷ [])) ∙ ap length (b .isFront) ∙ length-ticks rest₁ r₁ row in
       let s : longest (r₁ .settings) ≡ longest (r .settings) = ap longest (settings-after r (c .front)) in

@@ -42,6 +42,7 @@ use denote.Exit.{yes}
 use Rattle.boundary.proofs.Hosted.{Promised}
 use Rattle.image.specs.declared.Image.{Image}
 use Rattle.image.specs.declared.bringing.Brought.{Brought}
+use Rattle.common.proofs.Walks.{says-all, beside, both}
 use Rattle.boundary.specs.declared.ticking.ImageTicked.{ImageTicked}
 use Rattle.boundary.specs.declared.ticking.Outputs.{Outputs}
 use Rattle.image.proofs.Image as R
@@ -63,17 +64,6 @@ use Rattle.boundary.proofs.avr_tick.Code as code
 
 abbrev stayed : Stays (f.ended .signature .params) (f.ended .kept)
 stayed = (stay-ref (0 ∷ []) tt (plain (λ _. R.the-row)), (stay-none-ref (1 ∷ []) tt (plain (λ _. T.the-row)) yes, (stay-ref (2 ∷ []) tt (plain (λ _. O.the-row)), tt)))
-
--- several clauses at once: a goal P ∗ Q, where Q holds of nothing, and Q of two parts
-says-all : {M : Type 1} {𝓤 : URA M} {H : Heap 𝓤} {A : Atoms 𝓤} {K : Type 0} {W : Given 𝓤 H A} {Γ : List (Item 𝓤)} → K → (Q : SProp 𝓤) {P : SProp 𝓤} → ent 𝓤 (emp 𝓤) Q → Step K W Γ (prop P) Γ (prop (sep 𝓤 P Q))
-says-all {𝓤 = 𝓤} t Q {P} q = step (λ s. record { prf = via 𝓤 P (s .prf) (via 𝓤 (sep 𝓤 (emp 𝓤) P) (emp∗ 𝓤 P) (via 𝓤 (sep 𝓤 Q P) (monoL 𝓤 P q) (comm∗ 𝓤 Q P))) })
-
-beside : {M : Type 1} (𝓤 : URA M) {φ : Type 0} (Q : SProp 𝓤) → φ → ent 𝓤 (emp 𝓤) Q → ent 𝓤 (emp 𝓤) (sep 𝓤 (fact 𝓤 φ) Q)
-beside 𝓤 {φ} Q x q = via 𝓤 (sep 𝓤 (emp 𝓤) (emp 𝓤)) (emp∗ 𝓤 (emp 𝓤)) (mono∗ 𝓤 (factI 𝓤 φ (emp 𝓤) x) q)
-
--- two clauses that a callee ensures, as one fact
-both : {M : Type 1} (𝓤 : URA M) (φ ψ : Type 0) (Q : SProp 𝓤) → ent 𝓤 Q (fact 𝓤 ψ) → ent 𝓤 (sep 𝓤 (fact 𝓤 φ) Q) (fact 𝓤 (φ × ψ))
-both 𝓤 φ ψ Q q = fact-use 𝓤 φ (fst∗ 𝓤 (fact 𝓤 φ) Q) (λ x. fact-use 𝓤 ψ (via 𝓤 Q (snd∗ 𝓤 (fact 𝓤 φ) Q) q) (λ y. factI 𝓤 (φ × ψ) (sep 𝓤 (fact 𝓤 φ) Q) (x, y)))
 
 -- the machine values
 abbrev rval : Image → Val

@@ -38,6 +38,7 @@ use denote.Triple.Spec.{Meets, tripleOf}
 use denote.Triple.Table.{entered, cited}
 use denote.Triple.Walked.{Stays, stay-ref, stay-none, walkOf, goes-none, goes-ref, Walks, ends-at, walked, walk-meets}
 use denote.Exit.{yes}
+use Rattle.common.proofs.Walks.{says-all, beside}
 use Rattle.regulator.specs.Ticks.{tickOf}
 use Rattle.record.specs.declared.Regulator.{Regulator}
 use Rattle.input.specs.declared.Input.{Input}
@@ -62,13 +63,6 @@ use Rattle.lent.proofs.tick_lent.Code as code
 
 abbrev stayed : Stays (f.ended .signature .params) (f.ended .kept)
 stayed = (stay-ref (0 ∷ []) tt (plain (λ _. R.the-row)), (stay-none (λ _. T.the-row) yes, tt))
-
--- several clauses at once: a goal P ∗ Q, where Q holds of nothing, and Q of two parts
-says-all : {M : Type 1} {𝓤 : URA M} {H : Heap 𝓤} {A : Atoms 𝓤} {K : Type 0} {W : Given 𝓤 H A} {Γ : List (Item 𝓤)} → K → (Q : SProp 𝓤) {P : SProp 𝓤} → ent 𝓤 (emp 𝓤) Q → Step K W Γ (prop P) Γ (prop (sep 𝓤 P Q))
-says-all {𝓤 = 𝓤} t Q {P} q = step (λ s. record { prf = via 𝓤 P (s .prf) (via 𝓤 (sep 𝓤 (emp 𝓤) P) (emp∗ 𝓤 P) (via 𝓤 (sep 𝓤 Q P) (monoL 𝓤 P q) (comm∗ 𝓤 Q P))) })
-
-beside : {M : Type 1} (𝓤 : URA M) {φ : Type 0} (Q : SProp 𝓤) → φ → ent 𝓤 (emp 𝓤) Q → ent 𝓤 (emp 𝓤) (sep 𝓤 (fact 𝓤 φ) Q)
-beside 𝓤 {φ} Q x q = via 𝓤 (sep 𝓤 (emp 𝓤) (emp 𝓤)) (emp∗ 𝓤 (emp 𝓤)) (mono∗ 𝓤 (factI 𝓤 φ (emp 𝓤) x) q)
 
 -- the machine values
 abbrev rval : Regulator → Val

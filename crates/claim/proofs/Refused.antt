@@ -5,8 +5,8 @@ use mathlib.Core.Path.{_≡_, subst}
 use mathlib.Core.Bool.{false}
 use mathlib.Core.List.{List, _∷_, _++_}
 use Rattle.common.proofs.Cases.{no}
 use Rattle.claim.specs.Claim.{Tick, Opening, output, All, Accepted, Kept}
-use Rattle.regulator.proofs.Rows.{all-back, all-map}
+use Rattle.claim.proofs.Lists.{all-back, all-map}
 
 -- refused with 4, raise off
 abbrev pub Refused : Tick → Type 0
