@@ -8,11 +8,11 @@ use native.Mathlib.Omega.{arith}
 use borrow.Author.Tests.{lt-ltb, le-ltb}
 use lib.ListN.{getD}
 use Rattle.common.proofs.Cases.{yes, no}
-use Rattle.recording.specs.Recorded.{badFrom, badPlace}
+use Rattle.recording.specs.Recorded.{readings, readingBytes, contactsAt, badFrom, badPlace}
 
 -- the first place is the first from the ith reading on
 abbrev pub From : List ℕ → ℕ → ℕ → Type 0
-From s at i = badPlace s at ≡ badFrom s at (6 - i) i
+From s at i = badPlace s at ≡ badFrom s at (readings - i) i
 
 pub from-start : (s : List ℕ) (at : ℕ) → From s at 0
 unfolding badPlace
@@ -20,21 +20,21 @@ from-start s at = refl
 
 -- one turn: the reading's quality byte is above 2, or it is not
 module _ (s : List ℕ) (at : ℕ) {i : ℕ} (inv : From s at i) where
-  module _ (h : i < 6) where
-    next : 6 - i ≡ suc (6 - (i + 1))
-    next = omega (arith, add-one (6 - (i + 1)))
+  module _ (h : i < readings) where
+    next : readings - i ≡ suc (readings - (i + 1))
+    next = omega (arith, add-one (readings - (i + 1)))
 
-    pub bad-on : getD s (at + 5 * i) 0 ≤ 2 → From s at (i + 1)
+    pub bad-on : getD s (at + readingBytes * i) 0 ≤ 2 → From s at (i + 1)
     unfolding badFrom
     bad-on e = inv ∙ rw (next, add-one i) (sym (no _ _ _ _ (le-ltb _ _ e) refl))
 
-    pub bad-here : 2 < getD s (at + 5 * i) 0 → 5 * i ≡ badPlace s at
+    pub bad-here : 2 < getD s (at + readingBytes * i) 0 → readingBytes * i ≡ badPlace s at
     unfolding badFrom
     bad-here e = sym (inv ∙ rw next (sym (yes _ _ _ _ (lt-ltb _ _ e) refl)))
 
   -- no reading is left
-  pub bad-past : i ≤ 6 → 6 ≤ i → 30 ≡ badPlace s at
+  pub bad-past : i ≤ readings → readings ≤ i → contactsAt ≡ badPlace s at
   unfolding badFrom
   bad-past h l =
-      let e : i ≡ 6 = omega arith in
+      let e : i ≡ readings = omega arith in
       sym (inv ∙ rw e)

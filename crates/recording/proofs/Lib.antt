@@ -1,4 +1,5 @@
 pub mod Bad
 pub mod Made
+pub mod Parts
 pub mod Starts
 pub mod Texts

@@ -14,7 +14,7 @@ use Rattle.common.proofs.Cases.{yes, no}
 use Rattle.measure.specs.declared.Reading.{Reading}
 use Rattle.input.specs.declared.Input.{Input}
 use Rattle.recording.specs.Numbers.{numberAt}
-use Rattle.recording.specs.Recorded.{readingAt, inputAt, badPlace, decodedOf}
+use Rattle.recording.specs.Recorded.{contactsAt, bcdAt, sensorAt, tickBytes, nthReading, inputAt, badPlace, decodedOf}
 use Rattle.recording.specs.declared.ticks.Decoded.the-variants.{Tick, BadQuality, CutShort}
 
 -- a pattern that is not above infinity's, the sign left out, is no NaN's
@@ -33,32 +33,32 @@ a-nan b h = is-nan (ofBits binary32 b) (sym (nanBits-is binary32 b) ∙ nanBits-
 
 module _ (s : List ℕ) (at : ℕ) where
   pub input-made : {a b c d e f : Reading} {n : ℕ}
-      → a ≡ readingAt s at
-      → b ≡ readingAt s (at + 5)
-      → c ≡ readingAt s (at + 10)
-      → d ≡ readingAt s (at + 15)
-      → e ≡ readingAt s (at + 20)
-      → f ≡ readingAt s (at + 25)
-      → n ≡ numberAt s (at + 30)
+      → a ≡ nthReading s at 0
+      → b ≡ nthReading s at 1
+      → c ≡ nthReading s at 2
+      → d ≡ nthReading s at 3
+      → e ≡ nthReading s at 4
+      → f ≡ nthReading s at 5
+      → n ≡ numberAt s (at + contactsAt)
       → _≡_ {A = Input}
-      (record { «u_ab» = a; u0 = b; u2 = c; «i_high» = d; «i_bus» = e; «i_coupler» = f; contacts = n; bcd = getD s (at + 34) 0; sensor = getD s (at + 35) 0 })
+      (record { «u_ab» = a; u0 = b; u2 = c; «i_high» = d; «i_bus» = e; «i_coupler» = f; contacts = n; bcd = getD s (at + bcdAt) 0; sensor = getD s (at + sensorAt) 0 })
       (inputAt s at)
   unfolding inputAt
   input-made pa pb pc pd pe pf pn = rw (pa, pb, pc, pd, pe, pf, pn)
 
   -- too few bytes
-  pub cut-short : length s < at + 36 → CutShort ≡ decodedOf s at
+  pub cut-short : length s < at + tickBytes → CutShort ≡ decodedOf s at
   unfolding decodedOf
   cut-short h = no _ _ _ _ (lt-leb _ _ h) refl
 
-  module _ {p : ℕ} (e : p ≡ badPlace s at) (l : at ≤ length s) (h : 36 ≤ length s - at) where
-    whole : leb (at + 36) (length s) ≡ true
-    whole = le-leb (at + 36) (length s) (omega arith)
+  module _ {p : ℕ} (e : p ≡ badPlace s at) (l : at ≤ length s) (h : tickBytes ≤ length s - at) where
+    whole : leb (at + tickBytes) (length s) ≡ true
+    whole = le-leb (at + tickBytes) (length s) (omega arith)
 
-    pub bad-quality : p < 30 → BadQuality p (getD s (at + p) 0) ≡ decodedOf s at
+    pub bad-quality : p < contactsAt → BadQuality p (getD s (at + p) 0) ≡ decodedOf s at
     unfolding decodedOf
     bad-quality q = rw (← e) (yes _ _ _ _ whole (yes _ _ _ _ (lt-ltb _ _ q) refl))
 
-    pub a-tick : {i : Input} → 30 ≤ p → i ≡ inputAt s at → Tick i ≡ decodedOf s at
+    pub a-tick : {i : Input} → contactsAt ≤ p → i ≡ inputAt s at → Tick i ≡ decodedOf s at
     unfolding decodedOf
     a-tick q j = rw (← e, ← j) (yes _ _ _ _ whole (no _ _ _ _ (le-ltb _ _ q) refl))

@@ -14,8 +14,8 @@ use Rattle.common.proofs.Fill.{filled, none-filled, fill-more, all-filled}
 use Rattle.sheet.specs.Sheet.{numberOf, returnedOf}
 use Rattle.record.specs.declared.starting.Started.{Started}
 use Rattle.record.specs.Starting.{Start, repliedOf, startOf}
-use Rattle.recording.specs.Numbers.{numberAt}
-use Rattle.recording.specs.SheetFile.{numberIn, numbersOf, isWhole, sheetFileOf, listOf}
+use Rattle.recording.specs.Numbers.{numberBytes, numberAt}
+use Rattle.recording.specs.SheetFile.{sheetBytes, numberIn, numbersOf, isWhole, sheetFileOf, listOf}
 use Rattle.recording.specs.declared.sheets.SheetNumbers.{SheetNumbers}
 
 module _ (s : List ℕ) where
@@ -26,7 +26,7 @@ module _ (s : List ℕ) where
   pub none-read : Upto 0 (replicate slots 0)
   none-read = none-filled (numberIn s) (replicate slots 0)
 
-  pub one-read : {list : List ℕ} {i n : ℕ} → Upto i list → n ≡ numberAt s (4 * i) → i < slots → Upto (i + 1) (set list i n)
+  pub one-read : {list : List ℕ} {i n : ℕ} → Upto i list → n ≡ numberAt s (numberBytes * i) → i < slots → Upto (i + 1) (set list i n)
   unfolding numberIn
   one-read {i = i} inv e h = rw (inv, e) (fill-more (numberIn s) (replicate slots 0) i h)
 
@@ -36,11 +36,11 @@ module _ (s : List ℕ) where
       let e : i ≡ slots = omega arith in
       inv ∙ rw e (all-filled (numberIn s) (replicate slots 0) slots refl)
 
-  pub not-whole : (length s ≡ 4 * slots → ⊥) → _≡_ {A = SheetNumbers} (record { whole = false; numbers = replicate slots 0 }) (sheetFileOf s)
+  pub not-whole : (length s ≡ sheetBytes → ⊥) → _≡_ {A = SheetNumbers} (record { whole = false; numbers = replicate slots 0 }) (sheetFileOf s)
   unfolding sheetFileOf
   not-whole h = no _ _ _ _ (ne-eqb _ _ h) refl
 
-  pub whole : {list : List ℕ} → length s ≡ 4 * slots → list ≡ numbersOf s → _≡_ {A = SheetNumbers} (record { whole = true; numbers = list }) (sheetFileOf s)
+  pub whole : {list : List ℕ} → length s ≡ sheetBytes → list ≡ numbersOf s → _≡_ {A = SheetNumbers} (record { whole = true; numbers = list }) (sheetFileOf s)
   unfolding sheetFileOf
   whole h e = rw e (yes _ _ _ _ (eq-eqb _ _ h) refl)
 
@@ -69,6 +69,6 @@ module _ (s : List ℕ) {f : SheetNumbers} (e : f ≡ sheetFileOf s) {x : Start}
   start-other p q = q ∙ ap startOf (as-none (isWhole s) f (numbersOf s) (replicate slots 0) e p)
 
 -- a file of another length is refused with 1
-pub refused : (s : List ℕ) (r : Started) → repliedOf r ≡ startOf (listOf s) → (repliedOf r ≡ startOf (listOf s)) × ((length s ≡ 4 * slots → ⊥) → numberOf (r .answer) ≡ 1)
+pub refused : (s : List ℕ) (r : Started) → repliedOf r ≡ startOf (listOf s) → (repliedOf r ≡ startOf (listOf s)) × ((length s ≡ sheetBytes → ⊥) → numberOf (r .answer) ≡ 1)
 unfolding listOf startOf returnedOf choose
 refused s r e = (e, λ h. ap (λ (x : Start). x .number) (e ∙ ap startOf (sym (no _ _ _ _ (ne-eqb _ _ h) refl))))

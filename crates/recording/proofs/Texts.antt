@@ -13,7 +13,7 @@ use lib.ListN.{length, getD, set, drop, length-append, drop-of-length-le}
 use lib.Seq.{sets, length-sets, sets-eq, drop-cons}
 use Rattle.common.specs.Choice.{choose}
 use Rattle.common.proofs.Cases.{yes, no, chosen}
-use Rattle.recording.specs.Lines.{digitsOf, decimalOf, markOf, lineOf, Written, writtenOf, endOf}
+use Rattle.recording.specs.Lines.{mostDigits, widest, digitsOf, decimalOf, markOf, lineOf, Written, writtenOf, endOf}
 
 -- what stands after a number
 module _ (ns : List ℕ) (i : ℕ) where
@@ -68,9 +68,9 @@ at-most (suc k) n =
     (λ _. omega arith)
     (λ _. simp length-append (omega (arith, at-most k (n / 10))))
 
-pub ten-digits : (n : ℕ) → length (decimalOf n) ≤ 10
+pub most-digits : (n : ℕ) → length (decimalOf n) ≤ mostDigits
 unfolding decimalOf
-ten-digits n = at-most 10 n
+most-digits n = at-most mostDigits n
 
 pub written-length : {old new text : List ℕ} {at r : ℕ} → Written old at text new r → length new ≡ length old
 written-length {old} {new} {text} {at} p = ap length (p .bytes) ∙ length-sets old at text
@@ -100,21 +100,21 @@ one-fits n h room = omega (arith, ap length (short n h))
 -- a line's numbers before the ith are written: writing the rest gives the line, and there is room for it
 pub record Going (ns old : List ℕ) (at : ℕ) (out : List ℕ) (end i : ℕ) : Type 0 where
   pub within : i ≤ length ns
-  pub room : end + 11 * (length ns - i) ≤ length out
+  pub room : end + widest * (length ns - i) ≤ length out
   pub same : length out ≡ length old
   pub bytes : sets out end (lineOf (drop i ns)) ≡ sets old at (lineOf ns)
   pub past : end + length (lineOf (drop i ns)) ≡ at + length (lineOf ns)
 
 module _ (ns old : List ℕ) (at : ℕ) where
-  pub going-start : at + 11 * length ns ≤ length old → Going ns old at old at 0
+  pub going-start : at + widest * length ns ≤ length old → Going ns old at old at 0
   going-start h = record { within = omega arith; room = omega arith; same = refl; bytes = refl; past = refl }
 
   module _ {out : List ℕ} {end i : ℕ} (g : Going ns old at out end i) where
     pub number-fits : i < length ns → (n : ℕ) → end + length (decimalOf n) ≤ length out
-    number-fits h n = omega (arith, g .room, ten-digits n)
+    number-fits h n = omega (arith, g .room, most-digits n)
 
     pub mark-fits : (n : ℕ) {mid : List ℕ} {e : ℕ} → i < length ns → Written out end (decimalOf n) mid e → e < length mid
-    mark-fits n h p = omega (arith, g .room, ten-digits n, p .past, written-length p)
+    mark-fits n h p = omega (arith, g .room, most-digits n, p .past, written-length p)
 
     module _ {mid new : List ℕ} {e r m : ℕ} (h : i < length ns) (p : Written out end (decimalOf (getD ns i 0)) mid e) (q : Written mid e (m ∷ []) new r) (o : m ≡ markOf (drop (i + 1) ns)) where
       rest : List ℕ
@@ -132,7 +132,7 @@ module _ (ns old : List ℕ) (at : ℕ) where
       going-on =
           record {
             within = omega arith;
-            room = omega (arith, g .room, ten-digits (getD ns i 0), p .past, q .past, written-length p, written-length q);
+            room = omega (arith, g .room, most-digits (getD ns i 0), p .past, q .past, written-length p, written-length q);
             same = written-length q ∙ written-length p ∙ g .same;
             bytes = rw (both .bytes, both .past) (sym (sets-append out end (decimalOf (getD ns i 0) ++ (m ∷ [])) rest) ∙ ap (sets out end) (sym here) ∙ g .bytes);
             past = rw (both .past) (omega (arith, g .past, ap length here, length-append (decimalOf (getD ns i 0) ++ (m ∷ [])) rest));
@@ -144,24 +144,24 @@ module _ (ns old : List ℕ) (at : ℕ) where
         let e : drop i ns ≡ [] = drop-of-length-le ns h in
         record { bytes = rw e at (g .bytes); past = omega (arith, rw e at (g .past)) }
 
--- a line is at most 11 bytes to a number
-line-length : (ns : List ℕ) → length (lineOf ns) ≤ 11 * length ns
+-- a line is at most so many bytes to a number
+line-length : (ns : List ℕ) → length (lineOf ns) ≤ widest * length ns
 unfolding lineOf
 line-length [] = omega arith
-line-length (n ∷ ns) = simp length-append (omega (arith, ten-digits n, line-length ns))
+line-length (n ∷ ns) = simp length-append (omega (arith, most-digits n, line-length ns))
 
 module _ (ns out : List ℕ) (at : ℕ) where
-  no-room : length out < at + 11 * length ns → leb (at + 11 * length ns) (length out) ≡ false
-  no-room h = lt-leb (at + 11 * length ns) (length out) h
+  no-room : length out < at + widest * length ns → leb (at + widest * length ns) (length out) ≡ false
+  no-room h = lt-leb (at + widest * length ns) (length out) h
 
-  pub unwritten : length out < at + 11 * length ns → (out ≡ writtenOf ns out at) × ((at ≡ endOf ns out at) × (at ≤ length out → at ≤ length out))
+  pub unwritten : length out < at + widest * length ns → (out ≡ writtenOf ns out at) × ((at ≡ endOf ns out at) × (at ≤ length out → at ≤ length out))
   unfolding writtenOf endOf
   unwritten h = (no _ _ _ _ (no-room h) refl, (no _ _ _ _ (no-room h) refl, λ l. l))
 
   -- there is room for the line, and it is written
-  module _ {new : List ℕ} {r : ℕ} (l : at ≤ length out) (h : length ns ≤ (length out - at) / 11) (p : Written out at (lineOf ns) new r) where
-    room : leb (at + 11 * length ns) (length out) ≡ true
-    room = le-leb (at + 11 * length ns) (length out) (omega arith)
+  module _ {new : List ℕ} {r : ℕ} (l : at ≤ length out) (h : length ns ≤ (length out - at) / widest) (p : Written out at (lineOf ns) new r) where
+    room : leb (at + widest * length ns) (length out) ≡ true
+    room = le-leb (at + widest * length ns) (length out) (omega arith)
 
     pub line-written : new ≡ writtenOf ns out at
     unfolding writtenOf

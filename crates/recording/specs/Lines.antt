@@ -8,14 +8,22 @@ use lib.ListN.{length, take, drop}
 use lib.Seq.{sets}
 use Rattle.common.specs.Choice.{choose}
 
+-- the most digits of a 32-bit number
+abbrev pub mostDigits : ℕ
+mostDigits = 10
+
+-- the most bytes that a number takes, with what stands after it
+abbrev pub widest : ℕ
+widest = mostDigits + 1
+
 -- "decimal": the last k digits of a number in ASCII, the highest first, without zeros in front; 0 is "0"
 unfoldable pub digitsOf : ℕ → ℕ → List ℕ
 digitsOf zero n = []
 digitsOf (suc k) n = choose (ltb n 10) ((48 + n) ∷ []) (digitsOf k (n / 10) ++ ((48 + n % 10) ∷ []))
 
--- all digits of a 32-bit number: at most ten
+-- all digits of a 32-bit number
 unfoldable pub decimalOf : ℕ → List ℕ
-decimalOf n = digitsOf 10 n
+decimalOf n = digitsOf mostDigits n
 
 -- "split by single blanks": a blank, and a line's end after the last
 abbrev pub markOf : List ℕ → ℕ
@@ -32,9 +40,9 @@ pub record Written (old : List ℕ) (at : ℕ) (text new : List ℕ) (end : ℕ)
   pub bytes : new ≡ sets old at text
   pub past : end ≡ at + length text
 
--- whether there is room for as many numbers of the greatest width, 11
+-- whether there is room for as many numbers of the greatest width
 abbrev pub hasRoom : List ℕ → List ℕ → ℕ → Bool
-hasRoom ns out at = leb (at + 11 * length ns) (length out)
+hasRoom ns out at = leb (at + widest * length ns) (length out)
 
 -- the bytes from a place on replaced by the text
 abbrev pub placed : List ℕ → ℕ → List ℕ → List ℕ

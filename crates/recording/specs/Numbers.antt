@@ -4,6 +4,10 @@ use mathlib.Core.List.{List}
 use lib.ListN.{getD}
 use lib.Ieee.{Float, binary32, ofBits}
 
+-- bytes of a number
+abbrev pub numberBytes : ℕ
+numberBytes = 4
+
 -- "32-bit numbers, least byte first": the number of the four bytes from a place on
 unfoldable pub numberAt : List ℕ → ℕ → ℕ
 numberAt s at = getD s at 0 + 0x100 * getD s (at + 1) 0 + 0x1_0000 * getD s (at + 2) 0 + 0x100_0000 * getD s (at + 3) 0

@@ -8,9 +8,31 @@ use Rattle.common.specs.Choice.{choose}
 use Rattle.measure.specs.declared.Reading.{Reading}
 use Rattle.measure.specs.declared.Reading.the-variants.{Good, Held, Invalid}
 use Rattle.input.specs.declared.Input.{Input}
-use Rattle.recording.specs.Numbers.{numberAt, floatAt}
+use Rattle.recording.specs.Numbers.{numberBytes, numberAt, floatAt}
 use Rattle.recording.specs.declared.ticks.Decoded.{Decoded}
 use Rattle.recording.specs.declared.ticks.Decoded.the-variants.{Tick, BadQuality, CutShort}
+
+-- "six readings"
+abbrev pub readings : ℕ
+readings = 6
+
+-- bytes of a reading: "a quality byte and four float bytes"
+abbrev pub readingBytes : ℕ
+readingBytes = 1 + numberBytes
+
+-- where the contacts stand, after the readings
+abbrev pub contactsAt : ℕ
+contactsAt = readings * readingBytes
+
+abbrev pub bcdAt : ℕ
+bcdAt = contactsAt + numberBytes
+
+abbrev pub sensorAt : ℕ
+sensorAt = bcdAt + 1
+
+-- bytes of a tick
+abbrev pub tickBytes : ℕ
+tickBytes = sensorAt + 1
 
 -- "a quality byte (0 Good, 1 Held, 2 Invalid)"
 unfoldable pub readingOf : ℕ → Float → Reading
@@ -20,33 +42,37 @@ readingOf q x = choose (eqb q 0) (Good x) (choose (eqb q 1) (Held x) Invalid)
 unfoldable pub readingAt : List ℕ → ℕ → Reading
 readingAt s at = readingOf (getD s at 0) (floatAt s (at + 1))
 
+-- the ith reading of the tick that starts at a place
+abbrev pub nthReading : List ℕ → ℕ → ℕ → Reading
+nthReading s at i = readingAt s (at + readingBytes * i)
+
 -- "the six readings in the order of 01-scope.md (U_AB, 3U0, U2, I_high, I_bus, I_coupler); four contact bytes, least first; the BCD byte;
 -- the sensor byte"
 unfoldable pub inputAt : List ℕ → ℕ → Input
 inputAt s at =
     record {
-      «u_ab» = readingAt s at;
-      u0 = readingAt s (at + 5);
-      u2 = readingAt s (at + 10);
-      «i_high» = readingAt s (at + 15);
-      «i_bus» = readingAt s (at + 20);
-      «i_coupler» = readingAt s (at + 25);
-      contacts = numberAt s (at + 30);
-      bcd = getD s (at + 34) 0;
-      sensor = getD s (at + 35) 0;
+      «u_ab» = nthReading s at 0;
+      u0 = nthReading s at 1;
+      u2 = nthReading s at 2;
+      «i_high» = nthReading s at 3;
+      «i_bus» = nthReading s at 4;
+      «i_coupler» = nthReading s at 5;
+      contacts = numberAt s (at + contactsAt);
+      bcd = getD s (at + bcdAt) 0;
+      sensor = getD s (at + sensorAt) 0;
     }
 
 -- the place of the first quality byte above 2 among those of n readings from the ith on; past them where there is none
 unfoldable pub badFrom : List ℕ → ℕ → ℕ → ℕ → ℕ
-badFrom s at zero i = 5 * i
-badFrom s at (suc n) i = choose (ltb 2 (getD s (at + 5 * i) 0)) (5 * i) (badFrom s at n (suc i))
+badFrom s at zero i = readingBytes * i
+badFrom s at (suc n) i = choose (ltb 2 (getD s (at + readingBytes * i) 0)) (readingBytes * i) (badFrom s at n (suc i))
 
 unfoldable pub badPlace : List ℕ → ℕ → ℕ
-badPlace s at = badFrom s at 6 0
+badPlace s at = badFrom s at readings 0
 
 -- "each 36 bytes"; "a quality byte above 2, or a last tick that is cut short"
 unfoldable pub decodedOf : List ℕ → ℕ → Decoded
 decodedOf s at =
-    choose (leb (at + 36) (length s))
-    (choose (ltb (badPlace s at) 30) (BadQuality (badPlace s at) (getD s (at + badPlace s at) 0)) (Tick (inputAt s at)))
+    choose (leb (at + tickBytes) (length s))
+    (choose (ltb (badPlace s at) contactsAt) (BadQuality (badPlace s at) (getD s (at + badPlace s at) 0)) (Tick (inputAt s at)))
     CutShort

@@ -3,10 +3,13 @@ ghost use mathlib.Core.Path.{_≡_};
 ghost use Prim.Native.Nat.{_+_, _*_, _≤_, _<_};
 ghost use mathlib.Core.List.{[], _∷_};
 ghost use lib.ListN.{length, drop};
-ghost use Rattle.recording.specs.Lines.{decimalOf, markOf, lineOf, writtenOf, endOf, Written};
+ghost use Rattle.recording.specs.Lines.{widest, decimalOf, markOf, lineOf, writtenOf, endOf, Written};
 
-// The most bytes that a number takes: ten digits, and the blank or the line's end after it.
-pub const WIDEST: usize = 11;
+// The most digits of a number.
+const DIGITS: usize = 10;
+
+// The most bytes that a number takes: its digits, and the blank or the line's end after it.
+pub const WIDEST: usize = DIGITS + 1;
 
 fn put(byte: u8, out: &mut [u8], at: usize) -> usize
     requires { ⌜ at < length (now out) ⌝ }
@@ -37,7 +40,7 @@ fn mark_after(numbers: &[u32], i: usize) -> u8
 }
 
 fn put_numbers(numbers: &[u32], out: &mut [u8], at: usize) -> usize
-    requires { ⌜ at + 11 * length (now numbers) ≤ length (now out) ⌝ }
+    requires { ⌜ at + widest * length (now numbers) ≤ length (now out) ⌝ }
     ensures { λ r. ⌜ Written (now (out .entry)) at (lineOf (now (numbers .entry))) (now (out .exit)) r ⌝ }
 {
     let mut end = at;

@@ -3,7 +3,10 @@ ghost use mathlib.Core.Path.{_≡_};
 ghost use Prim.Native.Nat.{_+_, _<_, _≤_};
 ghost use lib.ListN.{length};
 ghost use lib.Ieee.{binary32, ofBits};
-ghost use Rattle.recording.specs.Numbers.{numberAt, floatAt};
+ghost use Rattle.recording.specs.Numbers.{numberBytes, numberAt, floatAt};
+
+// Bytes of a number.
+pub(crate) const NUMBER: usize = 4;
 
 fn wide(x: u8) -> u32
     ensures { λ r. ⌜ (r ≡ x) × (r < 256) ⌝ }
@@ -13,7 +16,7 @@ fn wide(x: u8) -> u32
 
 // The number of the four bytes from `at` on.
 pub(crate) fn number_at(bytes: &[u8], at: usize) -> u32
-    requires { ⌜ at + 4 ≤ length (now bytes) ⌝ }
+    requires { ⌜ at + numberBytes ≤ length (now bytes) ⌝ }
     ensures { λ r. ⌜ r ≡ numberAt (now (bytes .entry)) at ⌝ }
 {
     let a = wide(bytes[at]);
@@ -36,7 +39,7 @@ fn float_of(bits: u32) -> f32
 
 // The float of the four bytes from `at` on.
 pub(crate) fn float_at(bytes: &[u8], at: usize) -> f32
-    requires { ⌜ at + 4 ≤ length (now bytes) ⌝ }
+    requires { ⌜ at + numberBytes ≤ length (now bytes) ⌝ }
     ensures { λ r. ⌜ r ≡ floatAt (now (bytes .entry)) at ⌝ }
 {
     float_of(number_at(bytes, at))

@@ -1,17 +1,16 @@
 // A setting sheet from the bytes of its file.
-ghost use Prim.Native.Nat.{_*_};
 ghost use mathlib.Core.Path.{_≡_};
 ghost use lib.ListN.{length};
 ghost use Rattle.sheet.specs.Sheet.{numberOf};
 ghost use Rattle.record.specs.Starting.{repliedOf, startOf};
-ghost use Rattle.slots.specs.Slots.{slots};
-ghost use Rattle.recording.specs.SheetFile.{numbersOf, sheetFileOf, listOf};
+ghost use Rattle.recording.specs.SheetFile.{sheetBytes, numbersOf, sheetFileOf, listOf};
 use crate::numbers;
+use crate::numbers::NUMBER;
 use record::starting::Started;
 use slots::SLOTS;
 
 // Bytes of a sheet's file.
-pub const SHEET: usize = 4 * SLOTS;
+pub const SHEET: usize = NUMBER * SLOTS;
 
 // Whether the file is as long as a sheet's, and its numbers, or zeros where it is not.
 pub struct SheetNumbers {
@@ -21,13 +20,13 @@ pub struct SheetNumbers {
 
 // The numbers of a file that is as long as a sheet's.
 fn numbers_of(bytes: &[u8]) -> [u32; SLOTS]
-    requires { ⌜ length (now bytes) ≡ 4 * slots ⌝ }
+    requires { ⌜ length (now bytes) ≡ sheetBytes ⌝ }
     ensures { λ r. ⌜ r ≡ numbersOf (now (bytes .entry)) ⌝ }
 {
     let mut list = [0u32; SLOTS];
     let mut i: usize = 0;
     while i < SLOTS {
-        list[i] = numbers::number_at(bytes, 4 * i);
+        list[i] = numbers::number_at(bytes, NUMBER * i);
         i += 1;
     }
     list
@@ -50,10 +49,10 @@ pub fn decode_sheet(bytes: &[u8]) -> SheetNumbers
     }
 }
 
-// The reply to a sheet's file: a file of another length is a list that is not 63 long.
+// The reply to a sheet's file: a file of another length is a list of another length.
 pub fn start(bytes: &[u8]) -> Started
     ensures reply { λ r. ⌜ repliedOf r ≡ startOf (listOf (now (bytes .entry))) ⌝ }
-    ensures refused { λ r. ⌜ ((length (now (bytes .entry)) ≡ 4 * slots → ⊥) → numberOf (r .answer) ≡ 1) ⌝ }
+    ensures refused { λ r. ⌜ ((length (now (bytes .entry)) ≡ sheetBytes → ⊥) → numberOf (r .answer) ≡ 1) ⌝ }
 {
     let file = decode_sheet(bytes);
     let numbers = file.numbers;

@@ -1,26 +1,27 @@
-// One recorded tick from its 36 bytes: six readings of five bytes, the contacts, the BCD byte and the sensor byte.
+// One recorded tick from its bytes: the readings, the contacts, the BCD byte and the sensor byte.
 ghost use mathlib.Core.Path.{_≡_};
-ghost use Prim.Native.Nat.{_+_, _≤_};
+ghost use Prim.Native.Nat.{_+_, _≤_, _<_};
 ghost use lib.ListN.{length};
-ghost use Rattle.recording.specs.Recorded.{readingOf, readingAt, inputAt, badPlace, decodedOf};
+ghost use Rattle.recording.specs.Recorded.{readings, readingBytes, contactsAt, tickBytes, readingOf, readingAt, nthReading, inputAt, badPlace, decodedOf};
 use crate::numbers;
+use crate::numbers::NUMBER;
 use input::Input;
 use measure::Reading;
 
-// Bytes of one tick.
-pub const TICK: usize = 36;
-
-// Bytes of one reading: its quality and its float.
-const READING: usize = 5;
-
 const READINGS: usize = 6;
 
+// Bytes of one reading: its quality and its float.
+const READING: usize = 1 + NUMBER;
+
 // Where the contacts stand, after the readings; then the BCD byte and the sensor byte.
-const CONTACTS: usize = 30;
+const CONTACTS: usize = READINGS * READING;
 
-const BCD: usize = 34;
+const BCD: usize = CONTACTS + NUMBER;
 
-const SENSOR: usize = 35;
+const SENSOR: usize = BCD + 1;
+
+// Bytes of one tick.
+pub const TICK: usize = SENSOR + 1;
 
 // What the bytes from a place on are: a tick; one whose first quality byte above 2 stands at this place of it; or too few.
 pub enum Decoded {
@@ -43,23 +44,31 @@ fn reading_of(quality: u8, x: f32) -> Reading
 }
 
 fn reading_at(bytes: &[u8], at: usize) -> Reading
-    requires { ⌜ at + 5 ≤ length (now bytes) ⌝ }
+    requires { ⌜ at + readingBytes ≤ length (now bytes) ⌝ }
     ensures { λ r. ⌜ r ≡ readingAt (now (bytes .entry)) at ⌝ }
 {
     let x = numbers::float_at(bytes, at + 1);
     reading_of(bytes[at], x)
 }
 
+// The ith reading of the tick at a place.
+fn nth_reading(bytes: &[u8], at: usize, i: usize) -> Reading
+    requires { ⌜ (at + tickBytes ≤ length (now bytes)) × (i < readings) ⌝ }
+    ensures { λ r. ⌜ r ≡ nthReading (now (bytes .entry)) at i ⌝ }
+{
+    reading_at(bytes, at + READING * i)
+}
+
 fn input_at(bytes: &[u8], at: usize) -> Input
-    requires { ⌜ at + 36 ≤ length (now bytes) ⌝ }
+    requires { ⌜ at + tickBytes ≤ length (now bytes) ⌝ }
     ensures { λ r. ⌜ r ≡ inputAt (now (bytes .entry)) at ⌝ }
 {
-    let u_ab = reading_at(bytes, at);
-    let u0 = reading_at(bytes, at + 5);
-    let u2 = reading_at(bytes, at + 10);
-    let i_high = reading_at(bytes, at + 15);
-    let i_bus = reading_at(bytes, at + 20);
-    let i_coupler = reading_at(bytes, at + 25);
+    let u_ab = nth_reading(bytes, at, 0);
+    let u0 = nth_reading(bytes, at, 1);
+    let u2 = nth_reading(bytes, at, 2);
+    let i_high = nth_reading(bytes, at, 3);
+    let i_bus = nth_reading(bytes, at, 4);
+    let i_coupler = nth_reading(bytes, at, 5);
     let contacts = numbers::number_at(bytes, at + CONTACTS);
     let bcd = bytes[at + BCD];
     let sensor = bytes[at + SENSOR];
@@ -76,10 +85,10 @@ fn input_at(bytes: &[u8], at: usize) -> Input
     }
 }
 
-// The place of the first quality byte above 2, or 30.
+// The place of the first quality byte above 2, or where the contacts stand.
 fn bad_place(bytes: &[u8], at: usize) -> usize
-    requires { ⌜ at + 36 ≤ length (now bytes) ⌝ }
-    ensures { λ r. ⌜ (r ≡ badPlace (now (bytes .entry)) at) × (r ≤ 30) ⌝ }
+    requires { ⌜ at + tickBytes ≤ length (now bytes) ⌝ }
+    ensures { λ r. ⌜ (r ≡ badPlace (now (bytes .entry)) at) × (r ≤ contactsAt) ⌝ }
 {
     let mut i: usize = 0;
     while i < READINGS {
@@ -91,7 +100,7 @@ fn bad_place(bytes: &[u8], at: usize) -> usize
     CONTACTS
 }
 
-// The tick of the 36 bytes from `at` on. An Invalid reading's float is ignored.
+// The tick of the bytes from `at` on. An Invalid reading's float is ignored.
 pub fn decode_tick(bytes: &[u8], at: usize) -> Decoded
     ensures { λ r. ⌜ r ≡ decodedOf (now (bytes .entry)) at ⌝ }
 {

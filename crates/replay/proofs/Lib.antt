@@ -1,1 +1,3 @@
+mod Joined
 mod Runs
+mod Streams

@@ -15,32 +15,32 @@ use Rattle.input.specs.declared.Input.{Input}
 use Rattle.record.specs.declared.Regulator.{Regulator}
 use Rattle.recording.specs.declared.ticks.Decoded.{Decoded}
 use Rattle.recording.specs.declared.ticks.Decoded.the-variants.{Tick, BadQuality, CutShort}
-use Rattle.recording.specs.Lines.{lineOf, placed, writtenOf, endOf}
-use Rattle.recording.specs.Recorded.{decodedOf}
-use Rattle.recording.proofs.Texts.{ten-digits}
+use Rattle.recording.specs.Lines.{widest, lineOf, placed, writtenOf, endOf}
+use Rattle.recording.specs.Recorded.{tickBytes, decodedOf}
+use Rattle.recording.proofs.Texts.{most-digits}
 use Rattle.recording.proofs.Made.{cut-short}
-use Rattle.showing.specs.Showing.{fieldsOf, outputsOf}
+use Rattle.showing.specs.Showing.{fieldCount, fieldsOf, outputsOf}
 use Rattle.regulator.specs.declared.Ticked.{Ticked}
 use Rattle.regulator.specs.Ticks as ticks
 use Rattle.regulator.specs.Ticks.{ranOf, outOf, refusedOf, tickOf}
 use Rattle.replay.specs.declared.running.Stepped.{Stepped}
-use Rattle.replay.specs.Played.{Played, lineAt, playedOn, playFrom, playedOf, stepOf, linesOf}
+use Rattle.replay.specs.Played.{Played, lineRoom, lineAt, playedOn, playedTo, playFrom, playedOf, stepOf, linesOf}
 
 -- ---- a line
 
-outputs-28 : (r : Regulator) (i : Input) → length (tickOf r i .reply .outputs) ≡ 28
+output-count : (r : Regulator) (i : Input) → length (tickOf r i .reply .outputs) ≡ fieldCount
 unfolding tickOf outOf refusedOf ranOf ticks.endOf outputsOf fieldsOf
-outputs-28 r i =
-    chosen (λ (t : Ticked). length (t .reply .outputs) ≡ 28) _ _ _
-    (λ p. chosen (λ (t : Ticked). length (t .reply .outputs) ≡ 28) _ _ _ (λ q. refl) (λ q. refl)) (λ p. refl)
+output-count r i =
+    chosen (λ (t : Ticked). length (t .reply .outputs) ≡ fieldCount) _ _ _
+    (λ p. chosen (λ (t : Ticked). length (t .reply .outputs) ≡ fieldCount) _ _ _ (λ q. refl) (λ q. refl)) (λ p. refl)
 
-line-short : (ns : List ℕ) → length (lineOf ns) ≤ 11 * length ns
+line-short : (ns : List ℕ) → length (lineOf ns) ≤ widest * length ns
 unfolding lineOf
 line-short [] = omega arith
-line-short (n ∷ ns) = simp length-append (omega (arith, ten-digits n, line-short ns))
+line-short (n ∷ ns) = simp length-append (omega (arith, most-digits n, line-short ns))
 
-pub line-fits : (r : Regulator) (i : Input) → length (lineAt r i) ≤ 308
-line-fits r i = omega (arith, line-short (tickOf r i .reply .outputs), outputs-28 r i)
+pub line-fits : (r : Regulator) (i : Input) → length (lineAt r i) ≤ lineRoom
+line-fits r i = omega (arith, line-short (tickOf r i .reply .outputs), output-count r i)
 
 -- ---- a line that is put at the end of the lines
 
@@ -66,12 +66,12 @@ module _ (bytes : List ℕ) (at : ℕ) (r : Regulator) (lines : List ℕ) (end :
   abbrev Step : Stepped → List ℕ → Type 0
   Step s after = (s ≡ stepOf (decodedOf bytes at) r end) × (after ≡ linesOf (decodedOf bytes at) r lines end)
 
-  pub step-tick : {i : Input} {t : Ticked} {past : ℕ} {after : List ℕ} → end + 308 ≤ length lines → d ≡ Tick i → t ≡ tickOf r i
+  pub step-tick : {i : Input} {t : Ticked} {past : ℕ} {after : List ℕ} → end + lineRoom ≤ length lines → d ≡ Tick i → t ≡ tickOf r i
       → after ≡ writtenOf (t .reply .outputs) lines end → past ≡ endOf (t .reply .outputs) lines end
       → Step (record { next = t .next; end = past; taken = true }) after
   unfolding writtenOf endOf
   step-tick {i} {t} {past} {after} h p q w z =
-      let room : leb (end + 11 * length (tickOf r i .reply .outputs)) (length lines) ≡ true = le-leb (end + 11 * length (tickOf r i .reply .outputs)) (length lines) (omega (arith, outputs-28 r i)) in
+      let room : leb (end + widest * length (tickOf r i .reply .outputs)) (length lines) ≡ true = le-leb (end + widest * length (tickOf r i .reply .outputs)) (length lines) (omega (arith, output-count r i)) in
       let f : past ≡ end + length (lineAt r i) = z ∙ rw q (sym (yes _ _ _ _ room refl)) in
       rw (← e, p)
       (rw (f, q), w ∙ rw q (sym (yes _ _ _ _ room refl)))
@@ -88,9 +88,9 @@ module _ (bytes : List ℕ) (at : ℕ) (r : Regulator) (lines : List ℕ) (end :
 pub record Going (bytes : List ℕ) (whole : Played) (room : ℕ) (r : Regulator) (done end : ℕ) (lines : List ℕ) : Type 0 where
   pub fuel : ℕ
   pub plays : playFrom fuel bytes (record { state = r; done = done; text = take end lines }) ≡ whole
-  pub enough : length bytes ≤ done + 36 * fuel
+  pub enough : length bytes ≤ done + tickBytes * fuel
   pub within : done ≤ length bytes
-  pub short : 36 * end ≤ 308 * done
+  pub short : tickBytes * end ≤ lineRoom * done
   pub same : length lines ≡ room
 
 pub going-start : (r : Regulator) (bytes lines : List ℕ) → Going bytes (playedOf r bytes) (length lines) r 0 0 lines
@@ -98,14 +98,14 @@ unfolding playedOf
 going-start r bytes lines =
     record { fuel = length bytes; plays = refl; enough = omega arith; within = omega arith; short = omega arith; same = refl }
 
-on-tick : (n : ℕ) (bytes : List ℕ) (whole p : Played) (i : Input) → playFrom n bytes p ≡ whole → length bytes ≤ p .done + 36 * n
-    → p .done + 36 ≤ length bytes → Tick i ≡ decodedOf bytes (p .done)
-    → (m : ℕ) × (playFrom m bytes (playedOn p i) ≡ whole) × (length bytes ≤ p .done + 36 + 36 * m)
+on-tick : (n : ℕ) (bytes : List ℕ) (whole p : Played) (i : Input) → playFrom n bytes p ≡ whole → length bytes ≤ p .done + tickBytes * n
+    → p .done + tickBytes ≤ length bytes → Tick i ≡ decodedOf bytes (p .done)
+    → (m : ℕ) × (playFrom m bytes (playedOn p i) ≡ whole) × (length bytes ≤ p .done + tickBytes + tickBytes * m)
 unfolding playFrom
 on-tick zero bytes whole p i e l h d = absurd (omega arith)
 on-tick (suc n) bytes whole p i e l h d = (n, rw (← d) at e, omega arith)
 
-stop-at : (n : ℕ) (bytes : List ℕ) (p : Played) (d : Decoded) → d ≡ decodedOf bytes (p .done) → stepOf d (p .state) 0 .taken ≡ false
+pub stop-at : (n : ℕ) (bytes : List ℕ) (p : Played) (d : Decoded) → d ≡ decodedOf bytes (p .done) → stepOf d (p .state) 0 .taken ≡ false
     → playFrom n bytes p ≡ p
 unfolding playFrom
 stop-at zero bytes p d e t = refl
@@ -119,18 +119,18 @@ module _ {bytes : List ℕ} {whole : Played} {room : ℕ} {r : Regulator} {done 
     abbrev here : Played
     here = record { state = r; done = done; text = take end lines }
 
-    module _ (h : 36 ≤ length bytes - done) (k : 308 * length bytes ≤ 36 * room) where
-      pub line-room : end + 308 ≤ length lines
+    module _ (h : tickBytes ≤ length bytes - done) (k : lineRoom * length bytes ≤ tickBytes * room) where
+      pub line-room : end + lineRoom ≤ length lines
       line-room = omega (arith, g .within, g .short, g .same)
 
       on-case : (d : Decoded) → d ≡ decodedOf bytes done → stepOf d r end .taken ≡ true
-          → Going bytes whole room (stepOf d r end .next) (done + 36) (stepOf d r end .end) (linesOf d r lines end)
+          → Going bytes whole room (stepOf d r end .next) (done + tickBytes) (stepOf d r end .end) (linesOf d r lines end)
       on-case (Tick i) e t =
           let fits : end + length (lineAt r i) ≤ length lines = omega (arith, line-room, line-fits r i) in
           let q = on-tick (g .fuel) bytes whole here i (g .plays) (g .enough) (omega (arith, g .within)) e in
           record {
             fuel = q .0;
-            plays = ap (λ (l : List ℕ). playFrom (q .0) bytes (record { state = tickOf r i .next; done = done + 36; text = l })) (put-text lines (lineAt r i) end fits) ∙ q .1;
+            plays = ap (λ (l : List ℕ). playFrom (q .0) bytes (record { state = tickOf r i .next; done = done + tickBytes; text = l })) (put-text lines (lineAt r i) end fits) ∙ q .1;
             enough = q .2;
             within = omega (arith, g .within);
             short = omega (arith, g .short, line-fits r i);
@@ -140,18 +140,18 @@ module _ {bytes : List ℕ} {whole : Played} {room : ℕ} {r : Regulator} {done 
       on-case CutShort e t = absurd (false≢true t)
 
       pub going-on : {s : Stepped} {after : List ℕ} → s ≡ stepOf (decodedOf bytes done) r end → after ≡ linesOf (decodedOf bytes done) r lines end
-          → s .taken ≡ true → Going bytes whole room (s .next) (done + 36) (s .end) after
+          → s .taken ≡ true → Going bytes whole room (s .next) (done + tickBytes) (s .end) after
       going-on p q t = rw (p, q) (on-case (decodedOf bytes done) refl (ap (λ (x : Stepped). x .taken) (sym p) ∙ t))
 
     -- the end of the lines is within them
-    pub going-counts : 308 * length bytes ≤ 36 * room → Counts end lines
+    pub going-counts : lineRoom * length bytes ≤ tickBytes * room → Counts end lines
     going-counts k = counts end lines (omega (arith, g .within, g .short, g .same))
 
     stopped : (d : Decoded) → d ≡ decodedOf bytes done → stepOf d r 0 .taken ≡ false → here ≡ whole
     stopped d e t = sym (stop-at (g .fuel) bytes here d e t) ∙ g .plays
 
     -- fewer bytes than a tick's are left
-    pub going-end : length bytes - done < 36 → here ≡ whole
+    pub going-end : length bytes - done < tickBytes → here ≡ whole
     going-end h = stopped CutShort (cut-short bytes done (omega (arith, g .within))) refl
 
     same-taken : (d : Decoded) → stepOf d r end .taken ≡ stepOf d r 0 .taken
@@ -179,9 +179,5 @@ module _ {bytes : List ℕ} {whole : Played} {room : ℕ} {r : Regulator} {done 
             ap (λ (l : List ℕ). record { state = r; done = done; text = take end l }) lines-kept
             ∙ stopped (decodedOf bytes done) refl (sym (same-taken (decodedOf bytes done)) ∙ no-tick)
 
-        pub stop-counts : 308 * length bytes ≤ 36 * room → Counts end after
+        pub stop-counts : lineRoom * length bytes ≤ tickBytes * room → Counts end after
         stop-counts k = rw lines-kept (going-counts k)
-
--- the record and the bytes of what was played
-pub chunk-played : (p q : Played) → p ≡ q → (p .state ≡ q .state) × (p .done ≡ q .done)
-chunk-played p q e = (ap (λ (x : Played). x .state) e, ap (λ (x : Played). x .done) e)

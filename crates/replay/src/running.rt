@@ -3,8 +3,9 @@ ghost use Prim.Native.Nat.{_+_, _*_, _≤_};
 ghost use mathlib.Core.Path.{_≡_};
 ghost use lib.ListN.{length};
 ghost use Rattle.io.specs.Counts.{Counts};
-ghost use Rattle.recording.specs.Recorded.{decodedOf};
-ghost use Rattle.replay.specs.Played.{stepOf, linesOf, playedBy, playedOf};
+ghost use Rattle.recording.specs.Recorded.{tickBytes, decodedOf};
+ghost use Rattle.replay.specs.Played.{lineRoom, stepOf, linesOf, playedTo, playedOf};
+ghost use Rattle.replay.specs.Streamed.{chunkBytes, Chunk, Streamed, Replayed};
 use crate::failing;
 use crate::reading;
 use libc::STDOUT_FILENO;
@@ -22,6 +23,9 @@ const CHUNK: usize = TICKS * TICK;
 // Room for the lines of as many ticks.
 const LINES: usize = TICKS * FIELDS * WIDEST;
 
+// More turns than any file has chunks, and so few that no offset wraps.
+const TURNS: u64 = u64::MAX / CHUNK as u64;
+
 // After one tick: the next record, the end of the lines, and whether there was a tick.
 struct Stepped {
     next: Regulator,
@@ -37,21 +41,30 @@ struct Ran {
 }
 
 // The same, and whether the lines were written.
-struct Written {
-    next: Regulator,
-    done: usize,
-    written: bool,
+pub struct Written {
+    pub next: Regulator,
+    pub done: usize,
+    pub end: usize,
+    pub written: bool,
 }
 
-// After a chunk: the next record, and whether the run is over.
-struct Advanced {
-    next: Regulator,
-    over: bool,
+// After a chunk: its run, the bytes that were read, and whether the whole run is over.
+pub struct Advanced {
+    pub ran: Written,
+    pub got: usize,
+    pub over: bool,
+}
+
+// After all chunks: the run of the last one, the bytes that were read for it, and where it starts in the file.
+pub struct Ended {
+    pub ran: Written,
+    pub got: usize,
+    pub offset: u64,
 }
 
 // The tick at this place, its line put at the end of the lines.
 fn step(state: Regulator, bytes: &[u8], at: usize, lines: &mut [u8], end: usize) -> Stepped
-    requires { ⌜ end + 308 ≤ length (now lines) ⌝ }
+    requires { ⌜ end + lineRoom ≤ length (now lines) ⌝ }
     ensures step { λ r. ⌜ r ≡ stepOf (decodedOf (now (bytes .entry)) at) state end ⌝ }
     ensures text { λ r. ⌜ now (lines .exit) ≡ linesOf (decodedOf (now (bytes .entry)) at) state (now (lines .entry)) end ⌝ }
 {
@@ -82,11 +95,10 @@ fn step(state: Regulator, bytes: &[u8], at: usize, lines: &mut [u8], end: usize)
     }
 }
 
-// The whole ticks of a chunk, up to one that cannot be decoded. There is room for 308 bytes a line: 28 numbers of at most ten
-// digits, each with what stands after it.
+// The whole ticks of a chunk, up to one that cannot be decoded. There is room for as many lines as it has ticks.
 fn run_ticks(state: Regulator, bytes: &[u8], lines: &mut [u8]) -> Ran
-    requires { ⌜ 308 * length (now bytes) ≤ 36 * length (now lines) ⌝ }
-    ensures played { λ r. ⌜ playedBy r (now (lines .exit)) ≡ playedOf state (now (bytes .entry)) ⌝ }
+    requires { ⌜ lineRoom * length (now bytes) ≤ tickBytes * length (now lines) ⌝ }
+    ensures played { λ r. ⌜ playedTo (r .next) (r .done) (r .end) (now (lines .exit)) ≡ playedOf state (now (bytes .entry)) ⌝ }
     ensures counts { λ r. ⌜ Counts (r .end) (now (lines .exit)) ⌝ }
 {
     let mut next = state;
@@ -109,24 +121,23 @@ fn run_ticks(state: Regulator, bytes: &[u8], lines: &mut [u8]) -> Ran
 }
 
 // Runs a chunk and writes its lines.
-fn run_chunk(state: Regulator, bytes: &[u8]) -> Written
-    requires { ⌜ length (now bytes) ≤ 2304 ⌝ }
-    ensures { λ r. ⌜ (r .next ≡ playedOf state (now (bytes .entry)) .state) × (r .done ≡ playedOf state (now (bytes .entry)) .done) ⌝ }
+fn run_chunk(state: Regulator, bytes: &[u8], lines: &mut [u8]) -> Written
+    requires { ⌜ lineRoom * length (now bytes) ≤ tickBytes * length (now lines) ⌝ }
+    ensures { λ r. ⌜ playedTo (r .next) (r .done) (r .end) (now (lines .exit)) ≡ playedOf state (now (bytes .entry)) ⌝ }
 {
-    let mut lines = [0u8; LINES];
-    let ran = run_ticks(state, bytes, &mut lines);
+    let ran = run_ticks(state, bytes, lines);
     let end = ran.end;
     let next = ran.next;
     let written = io::write_all(STDOUT_FILENO, &lines[..end]);
     Written {
         next: next,
         done: ran.done,
+        end: end,
         written: written,
     }
 }
 
-// Says what ended the run: a bad quality byte, a read that failed, or bytes that are left over. A file is shorter than 2^64
-// bytes, so no offset wraps.
+// Says what ended the run: a bad quality byte, a read that failed, or bytes that are left over. No offset wraps, by `TURNS`.
 fn report(path: &[u8], bytes: &[u8], done: usize, offset: u64, failed: bool) {
     let decoded = recording::ticks::decode_tick(bytes, done);
     match decoded {
@@ -152,44 +163,82 @@ fn report_end(path: &[u8], got: usize, done: usize, offset: u64, failed: bool) {
 }
 
 // The next chunk of the file, which starts at the offset. One that is not full is the last.
-fn run_some(fd: i32, path: &[u8], state: Regulator, offset: u64) -> Advanced {
-    let mut space = [0u8; CHUNK];
-    let filled = reading::fill(fd, &mut space);
+fn run_some(
+    fd: i32,
+    path: &[u8],
+    state: Regulator,
+    offset: u64,
+    space: &mut [u8],
+    lines: &mut [u8],
+) -> Advanced
+    requires { ⌜ lineRoom * length (now space) ≤ tickBytes * length (now lines) ⌝ }
+    ensures { λ r. ⌜ Chunk state (now (space .exit)) (now (lines .exit)) r ⌝ }
+{
+    let filled = reading::fill(fd, space);
     let got = filled.got;
-    let ran = run_chunk(state, &space[..got]);
-    let next = ran.next;
+    let ran = run_chunk(state, &space[..got], lines);
     if !ran.written {
         failing::cannot_write();
         return Advanced {
-            next: next,
+            ran: ran,
+            got: got,
             over: true,
         };
     }
     if ran.done == CHUNK {
         return Advanced {
-            next: next,
+            ran: ran,
+            got: got,
             over: false,
         };
     }
     report(path, &space[..got], ran.done, offset, filled.failed);
     Advanced {
-        next: next,
+        ran: ran,
+        got: got,
         over: true,
     }
 }
 
 // A proved loop has to end, and nothing says that a file does. So it counts its turns down, from a number that no run uses up.
-pub(crate) fn run_all(fd: i32, path: &[u8], state: Regulator) {
+fn run_chunks(fd: i32, path: &[u8], state: Regulator, space: &mut [u8], lines: &mut [u8]) -> Ended
+    requires { ⌜ (length (now space) ≡ chunkBytes) × (lineRoom * chunkBytes ≤ tickBytes * length (now lines)) ⌝ }
+    ensures { λ r. ⌜ Streamed state (now (space .exit)) (now (lines .exit)) r ⌝ }
+{
     let mut next = state;
     let mut offset: u64 = 0;
-    let mut turns = u64::MAX;
+    let mut turns = TURNS;
     while turns > 0 {
-        let advanced = run_some(fd, path, next, offset);
+        let advanced = run_some(fd, path, next, offset, space, lines);
+        let ran = advanced.ran;
         if advanced.over {
-            return;
+            return Ended {
+                ran: ran,
+                got: advanced.got,
+                offset: offset,
+            };
         }
-        next = advanced.next;
-        offset = std::num::wrapping_add_u64(offset, CHUNK as u64);
+        next = ran.next;
+        offset += CHUNK as u64;
         turns -= 1;
     }
+    Ended {
+        ran: Written {
+            next: next,
+            done: 0,
+            end: 0,
+            written: true,
+        },
+        got: 0,
+        offset: offset,
+    }
+}
+
+// All of the file, with room for one chunk and its lines.
+pub(crate) fn run_all(fd: i32, path: &[u8], state: Regulator) -> Ended
+    ensures { λ r. ⌜ Replayed state r ⌝ }
+{
+    let mut space = [0u8; CHUNK];
+    let mut lines = [0u8; LINES];
+    run_chunks(fd, path, state, &mut space, &mut lines)
 }

@@ -2,15 +2,16 @@
 -- Assumes nothing.
 use borrow.Author.Needs.{needs}
 use Prim.Native.Nat.{_≤_, _-_}
+use Rattle.recording.specs.Recorded.{readings}
 use Rattle.recording.proofs.Bad.{From, from-start, bad-on, bad-here, bad-past}
 use Rattle.recording.proofs.ticks.bad_place.Statement.{statement}
 use Rattle.recording.proofs.ticks.bad_place.Tie as tie
 
 abbrev Inv-loop : tie.InvT-loop
-Inv-loop bytes at i₀ i = (i ≤ 6) × From bytes at i
+Inv-loop bytes at i₀ i = (i ≤ readings) × From bytes at i
 
 abbrev μ-loop : tie.MeasureT-loop
-μ-loop bytes at i₀ i = 6 - i
+μ-loop bytes at i₀ i = readings - i
 
 loop-holds : tie.Need-loop-holds Inv-loop μ-loop
 loop-holds c = search (needs, from-start)

@@ -5,38 +5,23 @@ use borrow.Author.Needs.{needs}
 use Rattle.recording.proofs.ticks.input_at.Statement.{statement}
 use Rattle.recording.proofs.ticks.input_at.Tie as tie
 
-reading-at-requires : tie.Need-reading-at-requires
-reading-at-requires c κs = search needs
+nth-reading-requires : tie.Need-nth-reading-requires
+nth-reading-requires c κs = search needs
 
-add-reading-at : tie.Need-add-reading-at
-add-reading-at c = search needs
+nth-reading-requires-2 : tie.Need-nth-reading-requires-2
+nth-reading-requires-2 c κs = search needs
 
-reading-at-requires-2 : tie.Need-reading-at-requires-2
-reading-at-requires-2 c κs = search needs
+nth-reading-requires-3 : tie.Need-nth-reading-requires-3
+nth-reading-requires-3 c κs = search needs
 
-add-reading-at-2 : tie.Need-add-reading-at-2
-add-reading-at-2 c = search needs
+nth-reading-requires-4 : tie.Need-nth-reading-requires-4
+nth-reading-requires-4 c κs = search needs
 
-reading-at-requires-3 : tie.Need-reading-at-requires-3
-reading-at-requires-3 c κs = search needs
+nth-reading-requires-5 : tie.Need-nth-reading-requires-5
+nth-reading-requires-5 c κs = search needs
 
-add-reading-at-3 : tie.Need-add-reading-at-3
-add-reading-at-3 c = search needs
-
-reading-at-requires-4 : tie.Need-reading-at-requires-4
-reading-at-requires-4 c κs = search needs
-
-add-reading-at-4 : tie.Need-add-reading-at-4
-add-reading-at-4 c = search needs
-
-reading-at-requires-5 : tie.Need-reading-at-requires-5
-reading-at-requires-5 c κs = search needs
-
-add-reading-at-5 : tie.Need-add-reading-at-5
-add-reading-at-5 c = search needs
-
-reading-at-requires-6 : tie.Need-reading-at-requires-6
-reading-at-requires-6 c κs = search needs
+nth-reading-requires-6 : tie.Need-nth-reading-requires-6
+nth-reading-requires-6 c κs = search needs
 
 add-number-at : tie.Need-add-number-at
 add-number-at c = search needs
@@ -63,17 +48,12 @@ pub input-at-spec : {M : Type 1} → statement M
 input-at-spec =
     tie.close
     (tie.spec
-    reading-at-requires
-    add-reading-at
-    reading-at-requires-2
-    add-reading-at-2
-    reading-at-requires-3
-    add-reading-at-3
-    reading-at-requires-4
-    add-reading-at-4
-    reading-at-requires-5
-    add-reading-at-5
-    reading-at-requires-6
+    nth-reading-requires
+    nth-reading-requires-2
+    nth-reading-requires-3
+    nth-reading-requires-4
+    nth-reading-requires-5
+    nth-reading-requires-6
     add-number-at
     number-at-requires
     add-bcd
