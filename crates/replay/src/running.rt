@@ -209,7 +209,8 @@ fn run_chunks(fd: i32, path: &[u8], state: Regulator, space: &mut [u8], lines: &
     let mut offset: u64 = 0;
     let mut turns = TURNS;
     while turns > 0 {
-        let advanced = run_some(fd, path, next, offset, space, lines);
+        let start = next;
+        let advanced = run_some(fd, path, start, offset, space, lines);
         let ran = advanced.ran;
         if advanced.over {
             return Ended {
