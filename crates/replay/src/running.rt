@@ -212,6 +212,7 @@ fn run_chunks(fd: i32, path: &[u8], state: Regulator, space: &mut [u8], lines: &
         let start = next;
         let advanced = run_some(fd, path, start, offset, space, lines);
         let ran = advanced.ran;
+        let reached = ran.next;
         if advanced.over {
             return Ended {
                 ran: ran,
@@ -219,7 +220,7 @@ fn run_chunks(fd: i32, path: &[u8], state: Regulator, space: &mut [u8], lines: &
                 offset: offset,
             };
         }
-        next = ran.next;
+        next = reached;
         offset += CHUNK as u64;
         turns -= 1;
     }
