@@ -76,6 +76,12 @@ pub const BASE: [u32; SLOTS] = [
     0,
 ];
 
+// One slot more and one slot less than a sheet has.
+const LONGER: usize = SLOTS + 1;
+
+const SHORTER: usize = SLOTS - 1;
+
+// The numbers that are tried at each slot.
 const TRIED: [u32; 46] = [
     0,
     1,
@@ -144,9 +150,9 @@ fn print_answer(list: &[u32]) {
 }
 
 // The sheet with a 0 behind it.
-fn longer() -> [u32; 64] {
+fn longer() -> [u32; LONGER] {
     let base = BASE;
-    let mut list = [0u32; 64];
+    let mut list = [0u32; LONGER];
     let mut i: usize = 0;
     while i < SLOTS {
         list[i] = base[i];
@@ -159,10 +165,13 @@ pub(crate) fn print_lengths() {
     let base = BASE;
     let long = longer();
     print_answer(&base);
-    print_answer(&base[..62]);
+    print_answer(&base[..SHORTER]);
     print_answer(&long);
     print_answer(&base[..0]);
 }
+
+// What the answer's number counts for in the checksum.
+const NUMBER: u64 = 64;
 
 // What the answer to the sheet with one slot set adds to the checksum.
 fn weight(base: [u32; SLOTS], i: usize, x: u32) -> u64
@@ -174,18 +183,18 @@ fn weight(base: [u32; SLOTS], i: usize, x: u32) -> u64
     let answer = sheet::check_sheet(&list).answer;
     let number = sheet::number(answer) as u64;
     let slot = sheet::slot(answer) as u64;
-    number * 64 + slot + 1
+    number * NUMBER + slot + 1
 }
 
 // The checksum with each number tried at one slot.
-fn add_slot(sum: u64, base: [u32; SLOTS], i: usize) -> u64
+fn add_slot(sum: u64, base: [u32; SLOTS], i: usize, tried: &[u32]) -> u64
     requires { ⌜ (sum < 1000003) × (i < slots) ⌝ }
     ensures { λ r. ⌜ r < 1000003 ⌝ }
 {
     let mut total = sum;
     let mut k: usize = 0;
-    while k < 46 {
-        total = sum::add(total, weight(base, i, TRIED[k]));
+    while k < tried.len() {
+        total = sum::add(total, weight(base, i, tried[k]));
         k += 1;
     }
     total
@@ -195,7 +204,7 @@ pub(crate) fn print_slots(word: &[u8], base: [u32; SLOTS]) {
     let mut sum = sum::START;
     let mut i: usize = 0;
     while i < SLOTS {
-        sum = add_slot(sum, base, i);
+        sum = add_slot(sum, base, i, &TRIED);
         print::text(word);
         print::number(i as u64);
         print::text(b" ");

@@ -1,15 +1,16 @@
 -- `values::sheets::add_slot` is safe and ends, and its checksum stays below what `add` asks.
 -- Assumes nothing.
 use Prim.Native.Nat.{_≤_, _<_, _-_}
+use lib.ListN.{length}
 use borrow.Author.Needs.{needs}
 use Rattle.values.proofs.sheets.add_slot.Statement.{statement}
 use Rattle.values.proofs.sheets.add_slot.Tie as tie
 
 abbrev Inv-loop : tie.InvT-loop
-Inv-loop sum base i total₀ k₀ total k = (k ≤ 46) × (total < 1000003)
+Inv-loop sum base i tried total₀ k₀ total k = (k ≤ length tried) × (total < 1000003)
 
 abbrev μ-loop : tie.MeasureT-loop
-μ-loop sum base i total₀ k₀ total k = 46 - k
+μ-loop sum base i tried total₀ k₀ total k = length tried - k
 
 loop-holds : tie.Need-loop-holds Inv-loop μ-loop
 loop-holds c = search needs
@@ -17,8 +18,8 @@ loop-holds c = search needs
 mul-weight : tie.Need-mul-weight Inv-loop μ-loop
 mul-weight c = search needs
 
-array-read-weight : tie.Need-array-read-weight Inv-loop μ-loop
-array-read-weight c = search needs
+shared-slice-read-weight : tie.Need-shared-slice-read-weight Inv-loop μ-loop
+shared-slice-read-weight c = search needs
 
 weight-requires : tie.Need-weight-requires Inv-loop μ-loop
 weight-requires c κs = search needs
@@ -46,7 +47,7 @@ add-slot-spec =
     μ-loop
     loop-holds
     mul-weight
-    array-read-weight
+    shared-slice-read-weight
     weight-requires
     add-requires
     add-k

@@ -1,6 +1,6 @@
 -- `values::sheets::longer` is safe and ends: a store keeps the length of the list.
 -- Assumes nothing.
-use Prim.Native.Nat.{_≤_, _-_}
+use Prim.Native.Nat.{_+_, _-_, _≤_}
 use mathlib.Core.Path.{_≡_}
 use lib.ListN.{length}
 use borrow.Author.Needs.{needs}
@@ -9,7 +9,7 @@ use Rattle.values.proofs.sheets.longer.Statement.{statement}
 use Rattle.values.proofs.sheets.longer.Tie as tie
 
 abbrev Inv-loop : tie.InvT-loop
-Inv-loop base list₀ i₀ list i = (i ≤ slots) × (length list ≡ 64)
+Inv-loop base list₀ i₀ list i = (i ≤ slots) × (length list ≡ slots + 1)
 
 abbrev μ-loop : tie.MeasureT-loop
 μ-loop base list₀ i₀ list i = slots - i

@@ -7,13 +7,16 @@ use Rattle.values.proofs.sheets.print_slots.Statement.{statement}
 use Rattle.values.proofs.sheets.print_slots.Tie as tie
 
 abbrev Inv-loop : tie.InvT-loop
-Inv-loop word base sum₀ i₀ t5 sum i = (i ≤ slots) × (sum < 1000003)
+Inv-loop word base sum₀ i₀ t5 t6 sum i = (i ≤ slots) × (sum < 1000003)
 
 abbrev μ-loop : tie.MeasureT-loop
-μ-loop word base sum₀ i₀ t5 sum i = slots - i
+μ-loop word base sum₀ i₀ t5 t6 sum i = slots - i
 
 loop-holds : tie.Need-loop-holds Inv-loop μ-loop
 loop-holds c = search needs
+
+slice-aggregate-add-slot : tie.Need-slice-aggregate-add-slot Inv-loop μ-loop
+slice-aggregate-add-slot c = search needs
 
 add-slot-requires : tie.Need-add-slot-requires Inv-loop μ-loop
 add-slot-requires c κs = search needs
@@ -52,6 +55,7 @@ print-slots-spec =
     Inv-loop
     μ-loop
     loop-holds
+    slice-aggregate-add-slot
     add-slot-requires
     text-requires
     number-requires
