@@ -11,13 +11,17 @@ use lib.Dec.{eqb}
 use lib.ListN.{length, take, length-append}
 use lib.Seq.{length-take-le}
 use Rattle.input.specs.declared.Input.{Input}
+use Rattle.sheet.specs.Sheet.{isTaken}
 use Rattle.record.specs.declared.Regulator.{Regulator}
+use Rattle.record.specs.declared.starting.Started.{Started}
+use Rattle.record.specs.Starting.{repliedOf, startOf}
 use Rattle.recording.specs.declared.ticks.Decoded.{Decoded}
 use Rattle.recording.specs.declared.ticks.Decoded.the-variants.{Tick, BadQuality, CutShort}
 use Rattle.recording.specs.Recorded.{tickBytes, decodedOf}
+use Rattle.recording.specs.SheetFile.{sheetBytes, listOf}
 use Rattle.recording.proofs.Parts.{whole-tick}
 use Rattle.replay.specs.Played.{Played, playedOn, onTick, playFrom, playedOf, playedTo, playedAfter}
-use Rattle.replay.specs.Streamed.{chunkBytes, Chunk, Streamed, Replayed}
+use Rattle.replay.specs.Streamed.{chunkBytes, Chunk, Streamed, Replayed, Answered, RunFrom}
 use Rattle.replay.specs.declared.running.Advanced.{Advanced}
 use Rattle.replay.specs.declared.running.Ended.{Ended}
 use Rattle.replay.proofs.Joined.{joined}
@@ -137,3 +141,17 @@ replayed {space = space} {e = e} s =
       next = ap (λ (p : Played). p .state) (s .played);
       done = ap (λ (p : Played). p .done) (s .played);
     }
+
+-- nothing was read
+pub replayed-none : (state : Regulator) → Replayed state (record { ran = record { next = state; done = 0; end = 0; written = true }; got = 0; offset = 0 })
+unfolding playedOf playFrom
+replayed-none state = record { read = []; size = refl; next = refl; done = refl }
+
+-- ---- the sheet
+
+pub answered : (file : List ℕ) (s : Started) → length file ≤ sheetBytes + 1 → repliedOf s ≡ startOf (listOf file) → Answered s
+answered file s h e = record { file = file; size = h; reply = e }
+
+-- a sheet that is taken
+pub taken-runs : (s : Started) {e : Ended} (t : Bool) → t ≡ isTaken (s .answer) → t ≡ true → Replayed (s .state) e → RunFrom s e
+taken-runs s t e p r = record { ran = r; refused = λ n. let z : _≡_ {A = Bool} true false = sym p ∙ e ∙ n in let y : _≡_ {A = ℕ} 0 1 = cc in absurd (omega arith) }

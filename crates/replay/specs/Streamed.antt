@@ -2,12 +2,16 @@
 -- No contract can name what a read brings, but it stands in the buffer. Definitions only.
 use Prim.Native.Nat.{ℕ, _+_, _*_, _≤_}
 use mathlib.Core.Path.{_≡_}
-use mathlib.Core.Bool.{not, _&&_, true}
+use mathlib.Core.Bool.{not, _&&_, true, false}
 use mathlib.Core.List.{List, _++_}
 use lib.Dec.{eqb}
 use lib.ListN.{length, take}
+use Rattle.sheet.specs.Sheet.{isTaken}
 use Rattle.record.specs.declared.Regulator.{Regulator}
+use Rattle.record.specs.declared.starting.Started.{Started}
+use Rattle.record.specs.Starting.{repliedOf, startOf}
 use Rattle.recording.specs.Recorded.{tickBytes}
+use Rattle.recording.specs.SheetFile.{sheetBytes, listOf}
 use Rattle.replay.specs.Played.{playedOf, playedTo}
 use Rattle.replay.specs.declared.running.Advanced.{Advanced}
 use Rattle.replay.specs.declared.running.Ended.{Ended}
@@ -44,3 +48,14 @@ pub record Replayed (state : Regulator) (e : Ended) : Type 0 where
   pub size : length read ≡ e .offset + e .got
   pub next : playedOf state read .state ≡ e .ran .next
   pub done : playedOf state read .done ≡ e .offset + e .ran .done
+
+-- the reply to a sheet's file, of which some bytes were read
+pub record Answered (s : Started) : Type 0 where
+  pub file : List ℕ
+  pub size : length file ≤ sheetBytes + 1
+  pub reply : repliedOf s ≡ startOf (listOf file)
+
+-- the recording is run from the record that the sheet gave; where the sheet is refused, nothing is read of it
+pub record RunFrom (s : Started) (e : Ended) : Type 0 where
+  pub ran : Replayed (s .state) e
+  pub refused : isTaken (s .answer) ≡ false → e .offset + e .got ≡ 0

@@ -236,6 +236,22 @@ fn run_chunks(fd: i32, path: &[u8], state: Regulator, space: &mut [u8], lines: &
     }
 }
 
+// Nothing is read, and the record stays.
+pub(crate) fn run_none(state: Regulator) -> Ended
+    ensures { λ r. ⌜ Replayed state r × (r .offset + r .got ≡ 0) ⌝ }
+{
+    Ended {
+        ran: Written {
+            next: state,
+            done: 0,
+            end: 0,
+            written: true,
+        },
+        got: 0,
+        offset: 0,
+    }
+}
+
 // All of the file, with room for one chunk and its lines.
 pub(crate) fn run_all(fd: i32, path: &[u8], state: Regulator) -> Ended
     ensures { λ r. ⌜ Replayed state r ⌝ }

@@ -1,7 +1,9 @@
 // The sheet and its answer; and then the recording, where the sheet is taken.
+ghost use Rattle.replay.specs.Streamed.{Answered, Replayed, RunFrom};
 use crate::failing;
 use crate::reading;
 use crate::running;
+use crate::running::Ended;
 use libc::STDOUT_FILENO;
 use record::Regulator;
 use record::starting::Started;
@@ -9,14 +11,22 @@ use recording::lines::WIDEST;
 use recording::sheets::SHEET;
 use sheet::Answer;
 
-// The reply to the sheet's file, and whether a read failed.
+// The reply to the sheet's file, or to no bytes where it cannot be opened, and whether it could not be read.
 struct Read {
     failed: bool,
     started: Started,
 }
 
+// The reply to the sheet, and the run of the recording.
+pub struct Whole {
+    pub started: Started,
+    pub ended: Ended,
+}
+
 // One byte more than a sheet has is asked for, so that a longer file shows.
-fn read_sheet(fd: i32) -> Read {
+fn read_sheet(fd: i32) -> Read
+    ensures { λ r. ⌜ Answered (r .started) ⌝ }
+{
     let mut bytes = [0u8; SHEET + 1];
     let filled = reading::fill(fd, &mut bytes);
     let got = filled.got;
@@ -27,6 +37,22 @@ fn read_sheet(fd: i32) -> Read {
     }
 }
 
+fn open_sheet(path: &[u8]) -> Read
+    ensures { λ r. ⌜ Answered (r .started) ⌝ }
+{
+    let fd = os::open_read(path);
+    if fd < 0 {
+        let started = recording::sheets::start(&[]);
+        return Read {
+            failed: true,
+            started: started,
+        };
+    }
+    let read = read_sheet(fd);
+    libc::close(fd);
+    read
+}
+
 // `0 0`, or the refusal's number and slot. Answers whether the line was written.
 fn print_answer(a: Answer) -> bool {
     let numbers = [sheet::number(a), sheet::slot(a)];
@@ -35,46 +61,63 @@ fn print_answer(a: Answer) -> bool {
     io::write_all(STDOUT_FILENO, &line[..end])
 }
 
+// The answer, and then the recording's lines.
+fn print_run(fd: i32, path: &[u8], answer: Answer, state: Regulator) -> Ended
+    ensures { λ r. ⌜ Replayed state r ⌝ }
+{
+    if print_answer(answer) {
+        return running::run_all(fd, path, state);
+    }
+    failing::cannot_write();
+    running::run_none(state)
+}
+
 // The recording of a sheet that is taken.
-fn run(path: &[u8], answer: Answer, state: Regulator) {
+fn run(path: &[u8], answer: Answer, state: Regulator) -> Ended
+    ensures { λ r. ⌜ Replayed state r ⌝ }
+{
     let fd = os::open_read(path);
     if fd < 0 {
         failing::cannot_read(path);
-        return;
+        return running::run_none(state);
     }
-    if print_answer(answer) {
-        running::run_all(fd, path, state);
-    } else {
-        failing::cannot_write();
-    }
+    let ended = print_run(fd, path, answer, state);
     libc::close(fd);
+    ended
 }
 
 // What was read of the sheet.
-fn go_on(recording: &[u8], started: Started) {
+fn go_on(recording: &[u8], started: Started) -> Ended
+    ensures { λ r. ⌜ RunFrom started r ⌝ }
+{
     let answer = started.answer;
+    let state = started.state;
     if sheet::taken(answer) {
-        let state = started.state;
-        run(recording, answer, state);
-        return;
+        return run(recording, answer, state);
     }
     if !print_answer(answer) {
         failing::cannot_write();
     }
+    running::run_none(state)
 }
 
-pub(crate) fn replay(sheet: &[u8], recording: &[u8]) {
-    let fd = os::open_read(sheet);
-    if fd < 0 {
-        failing::cannot_read(sheet);
-        return;
-    }
-    let read = read_sheet(fd);
-    libc::close(fd);
+pub(crate) fn replay(sheet: &[u8], recording: &[u8]) -> Whole
+    ensures { λ r. ⌜ Answered (r .started) × RunFrom (r .started) (r .ended) ⌝ }
+{
+    let read = open_sheet(sheet);
+    let started = read.started;
     if read.failed {
         failing::cannot_read(sheet);
-        return;
+        let state = started.state;
+        let ended = running::run_none(state);
+        return Whole {
+            started: started,
+            ended: ended,
+        };
     }
-    let started = read.started;
-    go_on(recording, started);
+    let ended = go_on(recording, started);
+    Whole {
+        started: started,
+        ended: ended,
+    }
 }
