@@ -140,12 +140,13 @@ replayed {space = space} {e = e} s =
       size = simp length-append (omega (arith, s .size, length-take-le (e .got) space (s .within)));
       next = ap (λ (p : Played). p .state) (s .played);
       done = ap (λ (p : Played). p .done) (s .played);
+      ends = s .ends;
     }
 
 -- nothing was read
 pub replayed-none : (state : Regulator) → Replayed state (record { ran = record { next = state; done = 0; end = 0; written = true }; got = 0; offset = 0 })
 unfolding playedOf playFrom
-replayed-none state = record { read = []; size = refl; next = refl; done = refl }
+replayed-none state = record { read = []; size = refl; next = refl; done = refl; ends = λ w e. omega arith }
 
 -- ---- the sheet
 

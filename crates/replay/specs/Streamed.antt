@@ -48,6 +48,7 @@ pub record Replayed (state : Regulator) (e : Ended) : Type 0 where
   pub size : length read ≡ e .offset + e .got
   pub next : playedOf state read .state ≡ e .ran .next
   pub done : playedOf state read .done ≡ e .offset + e .ran .done
+  pub ends : e .ran .written ≡ true → e .ran .done ≡ chunkBytes → ⊥
 
 -- the reply to a sheet's file, of which some bytes were read
 pub record Answered (s : Started) : Type 0 where
