@@ -4,8 +4,7 @@ ghost use lib.ListN.{length};
 ghost use Rattle.sheet.specs.Sheet.{numberOf};
 ghost use Rattle.record.specs.Starting.{repliedOf, startOf};
 ghost use Rattle.recording.specs.SheetFile.{sheetBytes, numbersOf, sheetFileOf, listOf};
-use crate::numbers;
-use crate::numbers::NUMBER;
+use crate::NUMBER;
 use record::starting::Started;
 use slots::SLOTS;
 
@@ -26,7 +25,7 @@ fn numbers_of(bytes: &[u8]) -> [u32; SLOTS]
     let mut list = [0u32; SLOTS];
     let mut i: usize = 0;
     while i < SLOTS {
-        list[i] = numbers::number_at(bytes, NUMBER * i);
+        list[i] = crate::number_at(bytes, NUMBER * i);
         i += 1;
     }
     list

@@ -3,8 +3,7 @@ ghost use mathlib.Core.Path.{_≡_};
 ghost use Prim.Native.Nat.{_+_, _≤_, _<_};
 ghost use lib.ListN.{length};
 ghost use Rattle.recording.specs.Recorded.{readings, readingBytes, contactsAt, tickBytes, readingOf, readingAt, nthReading, inputAt, badPlace, decodedOf};
-use crate::numbers;
-use crate::numbers::NUMBER;
+use crate::NUMBER;
 use input::Input;
 use measure::Reading;
 
@@ -47,7 +46,7 @@ fn reading_at(bytes: &[u8], at: usize) -> Reading
     requires { ⌜ at + readingBytes ≤ length (now bytes) ⌝ }
     ensures { λ r. ⌜ r ≡ readingAt (now (bytes .entry)) at ⌝ }
 {
-    let x = numbers::float_at(bytes, at + 1);
+    let x = crate::float_at(bytes, at + 1);
     reading_of(bytes[at], x)
 }
 
@@ -69,7 +68,7 @@ fn input_at(bytes: &[u8], at: usize) -> Input
     let i_high = nth_reading(bytes, at, 3);
     let i_bus = nth_reading(bytes, at, 4);
     let i_coupler = nth_reading(bytes, at, 5);
-    let contacts = numbers::number_at(bytes, at + CONTACTS);
+    let contacts = crate::number_at(bytes, at + CONTACTS);
     let bcd = bytes[at + BCD];
     let sensor = bytes[at + SENSOR];
     Input {

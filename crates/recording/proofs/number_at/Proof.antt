@@ -1,9 +1,9 @@
--- `recording::numbers::number_at` meets its contract.
+-- `recording::number_at` meets its contract.
 -- Assumes nothing.
 use Rattle.recording.specs.Numbers.{numberAt}
 use borrow.Author.Needs.{needs}
-use Rattle.recording.proofs.numbers.number_at.Statement.{statement}
-use Rattle.recording.proofs.numbers.number_at.Tie as tie
+use Rattle.recording.proofs.number_at.Statement.{statement}
+use Rattle.recording.proofs.number_at.Tie as tie
 
 shared-slice-read-wide : tie.Need-shared-slice-read-wide
 shared-slice-read-wide c = search needs

@@ -1,11 +1,11 @@
--- `recording::numbers::float_of` meets its contract.
+-- `recording::float_of` meets its contract.
 -- Assumes nothing.
 use lib.Ieee.{div, ofBits}
 use native.Mathlib.Omega.{arith}
 use Rattle.recording.proofs.Made.{no-nan, a-nan}
 use borrow.Author.Needs.{needs}
-use Rattle.recording.proofs.numbers.float_of.Statement.{statement}
-use Rattle.recording.proofs.numbers.float_of.Tie as tie
+use Rattle.recording.proofs.float_of.Statement.{statement}
+use Rattle.recording.proofs.float_of.Tie as tie
 
 returns : tie.Need-returns
 unfolding div ofBits

@@ -1,9 +1,9 @@
--- `recording::numbers::float_at` meets its contract.
+-- `recording::float_at` meets its contract.
 -- Assumes nothing.
 use Rattle.recording.specs.Numbers.{floatAt}
 use borrow.Author.Needs.{needs}
-use Rattle.recording.proofs.numbers.float_at.Statement.{statement}
-use Rattle.recording.proofs.numbers.float_at.Tie as tie
+use Rattle.recording.proofs.float_at.Statement.{statement}
+use Rattle.recording.proofs.float_at.Tie as tie
 
 number-at-requires : tie.Need-number-at-requires
 number-at-requires c κs = search needs
