@@ -11,7 +11,7 @@ use image::bringing::Brought;
 use record::Regulator;
 use showing::FIELDS;
 
-// The 28 outputs, by field.
+// The outputs, by field.
 #[repr(C)]
 pub struct Outputs {
     pub fields: [u32; FIELDS],

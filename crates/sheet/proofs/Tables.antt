@@ -1,5 +1,5 @@
--- The constant tables are the columns of the paper's rows, scaled by k, and no product of theirs with k wraps. antt computes it at the
--- 63 slots, for both modules.
+-- The constant tables are the columns of the paper's rows, scaled by k, and no product of theirs with k wraps. antt computes it at
+-- each slot, for both modules.
 -- Assumes nothing.
 use mathlib.Core.Path.{_≡_, refl}
 use mathlib.Core.Bool.{Bool, true, _||_}

@@ -40,7 +40,7 @@ firstFrom f (suc n) i = choose (f i) (firstFrom f n (suc i)) i
 unfoldable pub takenIn : List ℕ → ℕ → Bool
 takenIn s i = takenOf (moduleFactor s) i (slot s i)
 
--- the lowest slot that is out of range; 63 where none is
+-- the lowest slot that is out of range; the number of slots where none is
 unfoldable pub firstOutOfRange : List ℕ → ℕ
 firstOutOfRange s = firstFrom (takenIn s) slots 0
 

@@ -1,4 +1,4 @@
--- The paper's table of the 63 ranges, row by row, and the numbers that it takes.
+-- The paper's table of the ranges, row by row, and the numbers that it takes.
 use Prim.Native.Nat.{ℕ, _+_, _-_, _*_, _%_, _≤_}
 use mathlib.Core.Path.{_≡_}
 use mathlib.Core.Bool.{Bool, true, false, _&&_}

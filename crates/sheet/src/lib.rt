@@ -1,4 +1,4 @@
-// The setting sheet: a list of 63 numbers, each checked against its range, and then the order of the taps.
+// The setting sheet: a list of numbers, each checked against its range, and then the order of the taps.
 mod ranges;
 
 use ranges::HIGH;
@@ -75,7 +75,7 @@ fn in_range(low: u32, high: u32, step: u32, x: u32) -> bool
     (x - low) % 100 == 0
 }
 
-// The lowest slot that is out of range, or 63. The columns are made and scaled once, before the loop.
+// The lowest slot that is out of range, or the number of slots. The columns are made and scaled once, before the loop.
 fn first_out_of_range(s: &[u32; SLOTS]) -> usize
     ensures { λ r. ⌜ r ≡ firstOutOfRange (now (s .entry)) ⌝ }
 {
