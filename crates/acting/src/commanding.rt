@@ -16,7 +16,7 @@ use ways::Direction;
 use ways::Way;
 
 // The command that a deviation asks for: low a raise, high a lower.
-pub fn side_of(l: Level) -> Way
+fn side_of(l: Level) -> Way
     ensures { λ r. ⌜ r ≡ sideOf l ⌝ }
 {
     match l {
@@ -27,7 +27,7 @@ pub fn side_of(l: Level) -> Way
     }
 }
 
-pub fn is_missing(l: Level) -> bool
+fn is_missing(l: Level) -> bool
     ensures { λ r. ⌜ r ≡ isMissing l ⌝ }
 {
     match l {
@@ -38,7 +38,7 @@ pub fn is_missing(l: Level) -> bool
     }
 }
 
-pub fn is_in_band(l: Level) -> bool
+fn is_in_band(l: Level) -> bool
     ensures { λ r. ⌜ r ≡ isInBand l ⌝ }
 {
     match l {

@@ -28,7 +28,7 @@ fn waited(w: Wait, d: Direction) -> u32
     }
 }
 
-pub fn opposes(b: Blocks, d: Direction) -> bool
+fn opposes(b: Blocks, d: Direction) -> bool
     ensures { λ r. ⌜ r ≡ opposedOf b d ⌝ }
 {
     match d {
@@ -38,7 +38,7 @@ pub fn opposes(b: Blocks, d: Direction) -> bool
 }
 
 // The delay in force for a command of this direction.
-pub fn delay_in_force(s: &[u32; SLOTS], d: Direction, far: bool, repeat: Way) -> u32
+fn delay_in_force(s: &[u32; SLOTS], d: Direction, far: bool, repeat: Way) -> u32
     ensures { λ r. ⌜ r ≡ delayOf (now (s .entry)) d far repeat ⌝ }
 {
     if ways::to_lower(Way::To(d)) & far {

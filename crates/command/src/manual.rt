@@ -9,7 +9,7 @@ use ways::Direction;
 use ways::Way;
 
 // Exactly one button pressed, and that one not on the previous tick.
-pub fn pressed(now: Buttons, before: Buttons) -> Way
+fn pressed(now: Buttons, before: Buttons) -> Way
     ensures { λ r. ⌜ r ≡ pressedOf now before ⌝ }
 {
     if now.raise & !now.lower & !before.raise {

@@ -32,7 +32,7 @@ pub struct Organs {
 }
 
 // An over organ's mark: marked above the limit, cleared below 19/20 of it, else kept.
-pub fn over(was: bool, value: u32, limit: u32) -> bool
+fn over(was: bool, value: u32, limit: u32) -> bool
     ensures { λ r. ⌜ r ≡ overOf was value limit ⌝ }
 {
     let v = value as u64;
@@ -47,7 +47,7 @@ pub fn over(was: bool, value: u32, limit: u32) -> bool
 }
 
 // An under organ's mark: marked below the limit, cleared above 21/20 of it, else kept.
-pub fn under(was: bool, value: u32, limit: u32) -> bool
+fn under(was: bool, value: u32, limit: u32) -> bool
     ensures { λ r. ⌜ r ≡ underOf was value limit ⌝ }
 {
     let v = value as u64;
@@ -62,7 +62,7 @@ pub fn under(was: bool, value: u32, limit: u32) -> bool
 }
 
 // The mark after a tick: cleared where the organ is not live.
-pub fn mark(was: bool, x: OrganInput) -> bool
+fn mark(was: bool, x: OrganInput) -> bool
     ensures { λ r. ⌜ r ≡ markOf was x ⌝ }
 {
     if x.live {
@@ -88,7 +88,7 @@ pub fn count(marked: bool, before: u32, delay: u32) -> u32
 }
 
 // One organ over one tick. It trips if it is marked, with at least its delay of marked ticks directly before.
-pub fn organ_step(o: Organ, x: OrganInput) -> Stepped
+fn organ_step(o: Organ, x: OrganInput) -> Stepped
     ensures { λ r. ⌜ r ≡ steppedOf o x ⌝ }
 {
     let marked = mark(o.marked, x);
@@ -123,7 +123,7 @@ pub fn organs_step(organs: [Organ; 7], xs: [OrganInput; 7]) -> Organs
 }
 
 // Whether an organ is within a record's limits: a count of at most its delay, and of 0 if it is not marked.
-pub fn organ_within(o: Organ, delay: u32) -> bool
+fn organ_within(o: Organ, delay: u32) -> bool
     ensures { λ r. ⌜ r ≡ organWithin delay o ⌝ }
 {
     (o.count <= delay) & (o.marked | (o.count == 0))

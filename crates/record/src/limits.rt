@@ -27,7 +27,7 @@ fn wait_ticks(w: Wait) -> u32
 }
 
 // The delays of the seven organs.
-pub fn organ_delays(s: &[u32; SLOTS]) -> [u32; 7]
+fn organ_delays(s: &[u32; SLOTS]) -> [u32; 7]
     ensures { λ r. ⌜ r ≡ delaysOf (now (s .entry)) ⌝ }
 {
     [

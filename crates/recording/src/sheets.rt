@@ -32,7 +32,7 @@ fn numbers_of(bytes: &[u8]) -> [u32; SLOTS]
 }
 
 // The numbers of a sheet's file.
-pub fn decode_sheet(bytes: &[u8]) -> SheetNumbers
+fn decode_sheet(bytes: &[u8]) -> SheetNumbers
     ensures { λ r. ⌜ r ≡ sheetFileOf (now (bytes .entry)) ⌝ }
 {
     if bytes.len() != SHEET {

@@ -94,7 +94,7 @@ fn first_out_of_range(s: &[u32; SLOTS]) -> usize
 }
 
 // The answer to a list of the right length.
-pub fn judge(s: &[u32; SLOTS]) -> Answer
+fn judge(s: &[u32; SLOTS]) -> Answer
     ensures { λ r. ⌜ r ≡ judgeOf (now (s .entry)) ⌝ }
 {
     let first = first_out_of_range(s);
