@@ -254,7 +254,8 @@ typedef struct {
 
 /*
  * A reading. The value may be any float; one that is not finite, below 0, or
- * above 200 V or 40k A counts as missing.
+ * above 200 V or 40k A counts as missing. Any other counts as the nearest
+ * whole mV or mA, a half going up.
  */
 typedef struct {
     uint32_t quality; /* enum avr_quality */

@@ -3,7 +3,7 @@
 use mathlib.Core.Path.{_≡_, refl, sym, ap, _∙_, subst}
 use mathlib.Core.Logic.{inl, inr}
 use Prim.Native.Nat.{ℕ, zero, suc, _+_, _-_, _*_, _/_, _%_, _^_, _≤_, _<_}
-use native.Mathlib.Nat.{le-trans, le-of-eq, le-of-lt, eq-or-lt-of-le, mul-one, add-comm, zero-mul, lt-of-not-le, mul-assoc, mul-comm, mul-right-comm, mul-le-mul, mul-le-mul-right, mul-le-mul-left, le-of-mul-le-mul-right, eq-of-mul-eq-mul-right, mul-div-mul-right, div-eq-of-lt, div-le-of-le-mul, eq-zero-or-pos, mod-lt}
+use native.Mathlib.Nat.{le-trans, le-of-eq, le-of-lt, eq-or-lt-of-le, mul-one, add-comm, zero-mul, lt-of-not-le, mul-assoc, mul-comm, mul-right-comm, mul-le-mul, mul-le-mul-right, mul-le-mul-left, le-of-mul-le-mul-right, eq-of-mul-eq-mul-right, mul-div-mul-right, div-eq-of-lt, div-le-of-le-mul, div-lt-iff-lt-mul, div-div-eq-div-mul, add-div-right, eq-zero-or-pos, mod-lt}
 use native.Mathlib.Omega.{arith}
 use mathlib.Core.Bool.{Bool, true, false, not, _&&_, _||_, cond, true≢false}
 use lib.Dec.{T, leb, ltb, eqb, le→leb, leb→le, ltb→lt, eqb→eq, lit≤, lit<}
@@ -18,7 +18,7 @@ use lib.Ieee.Exact.{HasValue}
 use lib.Ieee.Back.{round-whole}
 use lib.Ieee.Scale.{finite}
 use lib.Ieee.Positive.{num, den, den-pos}
-use Rattle.measure.specs.Exact.{counts, inRange, thousandths}
+use Rattle.measure.specs.Exact.{counts, inRange, nearest, thousandths}
 use Rattle.measure.specs.Readings.{limitOf, ifInRange, convertedOf, goodOf, heldOf, measuredOf, AtMost}
 use Rattle.measure.specs.declared.Measured.{Measured}
 use Rattle.measure.specs.declared.Channel.{Channel}
@@ -235,13 +235,20 @@ module _ (k : ℕ) (few : k ≤ 2000) (n d b : ℕ) (p : Parts n d b) where
   pub floor-le : k * n / d ≤ 400000
   floor-le = let h = p .upper in let m : k * n ≤ 2000 * n = mul-le-mul-right n few in div-le-of-le-mul d (le-trans {m = 400000 * d} (omega arith) (le-of-eq (mul-comm 400000 d)))
 
+-- the nearest whole number, by the whole number of halves
+pub halved : (n d halves : ℕ) → 0 < d → halves ≡ 2 * n / d → (halves + 1) / 2 ≡ nearest n d
+halved n d halves D e = ap (λ (z : ℕ). (z + 1) / 2) e ∙ ap (λ (z : ℕ). z / 2) (sym (add-div-right (2 * n) D)) ∙ div-div-eq-div-mul (2 * n + d) d 2 ∙ ap (λ (z : ℕ). (2 * n + d) / z) (mul-comm d 2)
+
+-- a fraction that is not above a whole number has none above it nearest
+pub nearest-le : (n d m : ℕ) → 0 < d → n ≤ m * d → nearest n d ≤ m
+nearest-le n d m D h = omega (arith, div-lt-iff-lt-mul {k = 2 * d} {x = 2 * n + d} {y = m + 1} (omega arith) .1 (omega (arith, h)))
+
 -- ---- a measured number is at most 1000 times its limit
 
 thousandths-le : (l : ℕ) (x : Float) → T (inRange l x) → thousandths x ≤ 1000 * l
 thousandths-le l x t =
-    div-le-of-le-mul (den x)
-    (le-trans (mul-le-mul-left 1000 (leb→le (num x) (l * den x) (and-r (counts x) (leb (num x) (l * den x)) t)))
-    (le-of-eq (sym (mul-assoc 1000 l (den x)) ∙ mul-comm (1000 * l) (den x))))
+    nearest-le (1000 * num x) (den x) (1000 * l) (den-pos x)
+    (le-trans (mul-le-mul-left 1000 (leb→le (num x) (l * den x) (and-r (counts x) (leb (num x) (l * den x)) t))) (le-of-eq (sym (mul-assoc 1000 l (den x)))))
 
 converted-le : (b : Bool) (t l : ℕ) → (T b → t ≤ 1000 * l) → (AtMost (1000 * l) (goodOf (ifInRange b t))) × (AtMost (1000 * l) (heldOf (ifInRange b t)))
 unfolding AtMost goodOf heldOf

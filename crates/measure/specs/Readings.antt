@@ -22,7 +22,7 @@ abbrev pub ifInRange : Bool → ℕ → Converted
 ifInRange true n = Whole n
 ifInRange false n = OutOfRange
 
--- a number in range counts as its whole thousandths
+-- "the range test still comes first and on the float itself" (02, ticket 1): a number in range counts as its nearest whole thousandth
 abbrev pub convertedOf : ℕ → Float → Converted
 convertedOf limit x = ifInRange (inRange limit x) (thousandths x)
 

@@ -1,4 +1,4 @@
-// One measured reading as whole thousandths (mV, mA), by its exact value.
+// One measured reading as the nearest whole thousandth (mV, mA), by its exact value.
 ghost use mathlib.Core.Path.{_≡_};
 ghost use Prim.Native.Nat.{_*_};
 ghost use lib.Dec.{T};
@@ -43,8 +43,9 @@ pub fn limit(c: Channel) -> u16
     }
 }
 
-// The largest whole number not above 1000 * x. x is (2^23 + digits) / 2^(150 - exponent); where the exponent is below 116,
-// x is below 2^-11, a subnormal number among them, and gives 0.
+// The whole number nearest to 1000 * x, a half going up: the whole number of half thousandths in x, and one more, halved. x is
+// digits / 2^(150 - exponent); where the exponent is below 116, x is below 2^-11, which is less than half a thousandth, a
+// subnormal number among them, and gives 0.
 fn whole_thousandths(x: f32) -> u32
     requires { ⌜ T (inRange 200 x) ⌝ }
     ensures { λ r. ⌜ r ≡ thousandths x ⌝ }
@@ -55,7 +56,8 @@ fn whole_thousandths(x: f32) -> u32
         return 0;
     }
     let digits = (bits % 0x80_0000 + 0x80_0000) as u64;
-    ((1000 * digits) >> (150 - exponent)) as u32
+    let halves = (2000 * digits) >> (150 - exponent);
+    ((halves + 1) / 2) as u32
 }
 
 // Two comparisons decide the range: a NaN fails the first, and so does -infinity; -0.0 passes it and counts as 0; +infinity

@@ -7,8 +7,10 @@ use measure::Reading;
 ghost use Prim.Native.Nat.{_<_};
 
 // 100.1, the limit and the floats next to it, -0.0, the smallest float above 0, two NaNs, both infinities, two numbers below 0,
-// the floats on the two sides of 0.001, 1, the largest subnormal and the smallest normal number, and the largest number.
-const VOLTAGES: [u32; 18] = [
+// the floats on the two sides of 0.001, 1, the largest subnormal and the smallest normal number, and the largest number; then,
+// for the rounding, the float nearest to 100.1 that a product in floats rounds to another number, 199.9996, the floats on the two
+// sides of half a thousandth, the float below 0.0625, and halves of a thousandth that a float holds: 0.0625, 100.0625, 199.9375.
+const VOLTAGES: [u32; 26] = [
     0x42C8_3333,
     0x4348_0000,
     0x4348_0001,
@@ -27,10 +29,24 @@ const VOLTAGES: [u32; 18] = [
     0x0080_0000,
     0x7F7F_FFFF,
     0x4347_FFFF,
+    0x42C8_3168,
+    0x4347_FFE6,
+    0x3A03_126E,
+    0x3A03_126F,
+    0x3D7F_FFFF,
+    0x3D80_0000,
+    0x42C8_2000,
+    0x4347_F000,
 ];
 
-// The limit of a 1 A module, and the floats next to it.
-const CURRENTS: [u32; 3] = [0x4220_0000, 0x4220_0001, 0x421F_FFFF];
+// The limit of a 1 A module, and the floats next to it; 39.9996; and 39.9375, a half of a thousandth.
+const CURRENTS: [u32; 5] = [
+    0x4220_0000,
+    0x4220_0001,
+    0x421F_FFFF,
+    0x421F_FF97,
+    0x421F_C000,
+];
 
 // The pattern's float. A NaN is made by arithmetic, since `from_bits` is not defined at a NaN's pattern.
 fn float(bits: u32) -> f32 {
@@ -67,11 +83,15 @@ fn print_good(c: Channel, list: &[u32]) {
     }
 }
 
+fn print_held(c: Channel, bits: u32) {
+    print_reading(c, bits, Reading::Held(float(bits)));
+}
+
 pub(crate) fn print_listed() {
     print_good(Channel::Voltage, &VOLTAGES);
     print_good(Channel::Current1A, &CURRENTS);
-    let bits: u32 = 0x4348_0000;
-    print_reading(Channel::Voltage, bits, Reading::Held(float(bits)));
+    print_held(Channel::Voltage, 0x4348_0000);
+    print_held(Channel::Voltage, 0x3D80_0000);
 }
 
 // The next number of a row of numbers that look like chance.

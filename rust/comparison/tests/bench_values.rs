@@ -1,5 +1,5 @@
-//! The scope paper's bench values that are not proved together, and its five 'wrong and inviting' ones, on the proved library; each
-//! tick is held to the second program's as well.
+//! The scope paper's bench values that are not proved together, its five 'wrong and inviting' ones, and readings beside a half of a
+//! thousandth, on the proved library; each tick is held to the second program's as well.
 
 use comparison::convert::{brought, image_of};
 use library::{start, tick, Image, Outputs, FIELDS};
@@ -100,12 +100,63 @@ fn t7_of_0_is_off_when_the_contact_closes() {
     }
 }
 
-/// 0x42C83333 V is 100,099 mV, a millivolt below the band's edge; in floats it would be 100,100.
+/// The floats on the two sides of a half of a thousandth, as V or A: the first counts as the thousandth below, the second as the one above.
+struct Half {
+    below: u32,
+    above: u32,
+}
+
+impl Half {
+    /// This output on a tick of each side; `input` makes the tick of a float.
+    fn shows(&self, slots: &[(usize, u32)], field: usize, input: impl Fn(f32) -> Input) -> [u32; 2] {
+        [self.below, self.above].map(|bits| Unit::new(slots).tick(&input(f32::from_bits(bits)))[field])
+    }
+}
+
+/// The half below 100,100 mV, which is the band's edge here: 0x42C83333 V, 100.1, counts as the edge.
+#[test]
+fn a_voltage_counts_as_the_nearest_thousandth() {
+    let edge = [(slot::U_SUPP, 99_600), (slot::DU, 1_000)];
+    let high = |bits| Unit::new(&edge).tick(&volts(f32::from_bits(bits), AUTOMATIC))[18];
+    assert_eq!(high(0x42C8_3333), 1);
+    let half = Half { below: 0x42C8_32F1, above: 0x42C8_32F2 };
+    assert_eq!(half.shows(&edge, 18, |x| volts(x, AUTOMATIC)), [0, 1]);
+}
+
+/// 100,097 mA trips here and 100,096 does not. In floats 0x42C83168 A, 100,096.4966 mA, would be 100,096.5 and so 100,097.
 #[test]
 fn a_reading_is_not_multiplied_in_floats() {
-    let mut unit = Unit::new(&[(slot::U_SUPP, 99_600), (slot::DU, 1_000)]);
-    assert_eq!(unit.tick(&volts(f32::from_bits(0x42C8_3333), AUTOMATIC))[18], 0);
-    assert_eq!(unit.tick(&volts(f32::from_bits(0x42C8_3334), AUTOMATIC))[18], 1);
+    let x = f32::from_bits(0x42C8_3168);
+    assert_eq!((x * 1_000.0).round(), 100_097.0);
+    let slots = [
+        (slot::MODULE, 1),
+        (slot::I_SET1, 100_096),
+        (slot::I_SET2, 5_000),
+        (slot::I_SET3, 500),
+        (slot::ORGANS_ON, 1),
+        (slot::T9, 0),
+    ];
+    let half = Half { below: 0x42C8_3168, above: 0x42C8_3169 };
+    assert_eq!(half.shows(&slots, 6, |x| Input { i_high: Reading::Good(x), ..volts(100.0, AUTOMATIC) }), [0, 1]);
+}
+
+/// A Held reading feeds the organs as the nearest thousandth: 120,001 mV is over U_set1, 90,000 mV is not under U_set2.
+#[test]
+fn a_held_reading_counts_as_the_nearest_thousandth() {
+    let organ = |n| [(slot::ORGANS_ON + n, 1), (slot::T9 + n, 0)];
+    let held = |x| Input { u_ab: Reading::Held(x), ..volts(0.0, AUTOMATIC) };
+    let over = Half { below: 0x42F0_0041, above: 0x42F0_0042 };
+    assert_eq!(over.shows(&organ(3), 9, held), [0, 1]);
+    let under = Half { below: 0x42B3_FFBE, above: 0x42B3_FFBF };
+    assert_eq!(under.shows(&organ(4), 10, held), [1, 0]);
+}
+
+/// The section needs more than 100 mA.
+#[test]
+fn a_current_counts_as_the_nearest_thousandth() {
+    let half = Half { below: 0x3DCD_D2F1, above: 0x3DCD_D2F2 };
+    let loaded = |x| Input { i_bus: Reading::Good(x), ..volts(100.0, AUTOMATIC) };
+    assert_eq!(half.shows(&[(slot::SECTION_NEEDS_CURRENT, 1)], 2, loaded), [0, 1]);
 }
 
 #[test]

@@ -72,7 +72,8 @@ comment line. A column that is not there is 0.
     70,invalid
     90,end
 
-  readings        U_AB 3U0 U2 (V), I_high I_bus I_coupler (A): `98.2`, `98.2 held`, `invalid`
+  readings        U_AB 3U0 U2 (V), I_high I_bus I_coupler (A): `98.2`, `98.2 held`, `invalid`. The unit counts the nearest
+                  mV or mA, a half going up; what is above 200 V or 40 times I_nom is missing to it.
   contacts        breaker switching supply_off oil_cold oil_low oil_high end_up end_down ext_overcurrent ext_block
                   ext_raise_block ext_lower_block reset out automatic local U_supp2 U_supp3 U_supp4 raise lower:
                   1 or 0, on or off, closed or open

@@ -6,8 +6,9 @@ use std::fs;
 
 use common::{avr, between, check_texts, err, examples, Folder};
 
-const STORIES: [&str; 10] = [
+const STORIES: [&str; 11] = [
     "acceleration",
+    "band-edge",
     "compensation",
     "fast-move",
     "long-move",
@@ -29,7 +30,7 @@ fn path(story: &str, name: &str) -> String {
 }
 
 #[test]
-fn there_are_ten_stories() {
+fn all_stories_are_named() {
     let entries = fs::read_dir(examples()).expect("examples");
     let folders = entries.filter_map(Result::ok).filter(|entry| entry.path().is_dir());
     let mut names: Vec<String> = folders.map(|entry| entry.file_name().into_string().expect("text")).collect();
@@ -65,6 +66,7 @@ fn each_story_is_told() {
         ("sliding-tap", vec!["out  tap 10", "out  tap 11", "operations 2"]),
         ("manual-keys", vec!["raise button pressed", "out  RAISE command", "out  LOWER command"]),
         ("organ-blocks", vec!["TRIP: I_bus over I_set2", "out  automatic blocked", "out  automatic free"]),
+        ("band-edge", vec!["U_AB 100.0994 V\n     40.005", "U_AB 100.1 V\n                        out  voltage high"]),
         ("compensation", vec!["I_bus 0.4 A\n                        out  voltage low"]),
     ] {
         let table = read(story, "table.txt");

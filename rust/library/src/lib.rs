@@ -59,7 +59,7 @@ pub struct Image {
     pub lower_button: u32,
 }
 
-/// A reading: its quality, and a number in V or A.
+/// A reading: its quality, and a number in V or A, which counts as the nearest whole mV or mA, a half going up.
 #[repr(C)]
 #[derive(Clone, Copy, Debug, Default)]
 pub struct Sample {

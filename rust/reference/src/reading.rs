@@ -34,20 +34,22 @@ impl Reading {
     }
 }
 
-/// The largest whole number of thousandths not above `x`; nothing if `x` is
-/// missing: not finite, below 0, or above `limit` (a whole number of V or A).
+/// The whole number of thousandths nearest to `x`, a half going up; nothing if
+/// `x` is missing: not finite, below 0, or above `limit` (a whole number of V
+/// or A). The range test comes first and on the float itself.
 pub fn thousandths(x: f32, limit: u32) -> Option<u32> {
     let below = x < 0.0;
     let above = x > limit as f32;
     if !x.is_finite() || below || above {
         return None;
     }
-    Some(floor_of_thousandfold(x.to_bits()))
+    Some(nearest_to_thousandfold(x.to_bits()))
 }
 
-/// Floor of 1000 x, where x is given by its bits, is not negative and is at
-/// most 200 or so: then x = significand / 2^shift with a positive shift.
-fn floor_of_thousandfold(bits: u32) -> u32 {
+/// The whole number nearest to 1000 x, a half going up, where x is given by
+/// its bits, is not negative and is at most 200 or so: then
+/// x = significand / 2^shift with a positive shift.
+fn nearest_to_thousandfold(bits: u32) -> u32 {
     let exponent = (bits >> 23) & 0xFF;
     let fraction = u64::from(bits & 0x007F_FFFF);
     // Exponent 0 has no hidden leading 1 and the scale of exponent 1.
@@ -56,10 +58,11 @@ fn floor_of_thousandfold(bits: u32) -> u32 {
         _ => (fraction | 0x0080_0000, exponent),
     };
     let shift = 150 - scale;
-    // 1000 x significand is below 2^34, so beyond that nothing whole is left.
-    let whole = match shift {
-        0..=33 => (1000 * significand) >> shift,
+    // The whole part of 1000 x + 1/2, over the denominator 2^(shift + 1).
+    // 1000 significand is below 2^34, so from shift 35 on 1000 x is below 1/2.
+    let nearest = match shift {
+        0..=34 => (2000 * significand + (1 << shift)) >> (shift + 1),
         _ => 0,
     };
-    u32::try_from(whole).expect("at most 200,000 by the range test")
+    u32::try_from(nearest).expect("at most 200,000 by the range test")
 }

@@ -4,7 +4,7 @@ use crate::dice::Dice;
 use crate::input::{bit, Input, CONTACTS, READINGS};
 use crate::make_sheet;
 use crate::plant::Plant;
-use crate::reading::{thousandths, Reading};
+use crate::reading::Reading;
 use crate::record::{Direction, Record};
 use crate::sheet::{module_k, slot, Settings};
 use crate::stretch::{others, Buttons, Level, Stretch, LOWER, RAISE};
@@ -120,11 +120,12 @@ impl Scene {
         (u + less).clamp(0, 200_000) as u32
     }
 
-    /// A reading of so many thousandths, sometimes spoiled.
+    /// A reading that counts as so many thousandths, sometimes spoiled; one in
+    /// four lies beside its number.
     fn reading(&mut self, number: u32) -> Reading {
-        let float = match self.dice.one_in(8) {
-            true => number as f32 / 1_000.0,
-            false => float_of(number),
+        let float = match self.dice.between(0, 4 * BESIDE as u32 - 1) as usize {
+            place @ 0..BESIDE => floats_beside(number)[place],
+            _ => float_of(number),
         };
         if !self.dice.one_in(self.stretch.noise * 3) {
             return Reading::Good(float);
@@ -158,11 +159,38 @@ impl Scene {
     }
 }
 
-/// A float whose whole thousandths are just this number, up to 200,000.
+/// The float nearest to this number of thousandths, up to 200,000. It is less
+/// than a hundredth of a thousandth away, so it counts as just this number.
 pub fn float_of(number: u32) -> f32 {
-    let nearest = (f64::from(number) / 1_000.0) as f32;
-    match thousandths(nearest, 200) {
-        Some(got) if got < number => f32::from_bits(nearest.to_bits() + 1),
-        _ => nearest,
+    number as f32 / 1_000.0
+}
+
+/// How many floats beside its number a reading can be.
+pub const BESIDE: usize = 5;
+
+/// Floats between two thousandths that count as this number, up to 200,000:
+/// the first two past the half below it, one a bit nearer on either side, and
+/// the last before the half above. Where a float can hold the half below, which
+/// is rare, all are that half. Those below 0 or above the limit are missing.
+pub fn floats_beside(number: u32) -> [f32; BESIDE] {
+    let first = first_from_half_below(number);
+    // (number - 1/2) / 1,000 is (2 number - 1) / (16 x 125).
+    if 2 * number % 125 == 1 {
+        return [first; BESIDE];
+    }
+    let last = first_from_half_below(number + 1).next_down();
+    let off = |by: f64| ((f64::from(number) + by) / 1_000.0) as f32;
+    [first, first.next_up(), off(-0.45), off(0.45), last]
+}
+
+/// The first float not below the half before this number of thousandths: the
+/// half itself where a float can hold it.
+fn first_from_half_below(number: u32) -> f32 {
+    let half = f64::from(number) - 0.5;
+    let nearest = (half / 1_000.0) as f32;
+    // Exact: 24 bits and the 10 of 1,000 fit into the 53 of f64.
+    match f64::from(nearest) * 1_000.0 < half {
+        true => nearest.next_up(),
+        false => nearest,
     }
 }

@@ -26,8 +26,8 @@ pub const BASE: Settings = [
     0, 0, 0, 0, 0, 0, 0, 0, 0, 0,
 ];
 
-/// Readings against 200, by their bits.
-const AGAINST_200: [u32; 18] = [
+/// Good readings against 200, by their bits.
+pub const AGAINST_200: [u32; 26] = [
     0x42C8_3333,
     0x4348_0000,
     0x4348_0001,
@@ -46,10 +46,21 @@ const AGAINST_200: [u32; 18] = [
     0x0080_0000,
     0x7F7F_FFFF,
     0x4347_FFFF,
+    0x42C8_3168,
+    0x4347_FFE6,
+    0x3A03_126E,
+    0x3A03_126F,
+    0x3D7F_FFFF,
+    0x3D80_0000,
+    0x42C8_2000,
+    0x4347_F000,
 ];
 
-/// Readings against 40, by their bits.
-const AGAINST_40: [u32; 3] = [0x4220_0000, 0x4220_0001, 0x421F_FFFF];
+/// Good readings against 40, by their bits.
+pub const AGAINST_40: [u32; 5] = [0x4220_0000, 0x4220_0001, 0x421F_FFFF, 0x421F_FF97, 0x421F_C000];
+
+/// Held readings against 200, by their bits.
+pub const HELD_AGAINST_200: [u32; 2] = [0x4348_0000, 0x3D80_0000];
 
 /// Numbers tried in every slot.
 const TRIED: [u32; 46] = [
@@ -140,8 +151,10 @@ fn print_readings(out: &mut impl Write) -> io::Result<()> {
     for bits in AGAINST_40 {
         print_reading(out, 40, bits, good(bits))?;
     }
-    let held = 0x4348_0000;
-    print_reading(out, 200, held, Reading::Held(f32::from_bits(held)))
+    for bits in HELD_AGAINST_200 {
+        print_reading(out, 200, bits, Reading::Held(f32::from_bits(bits)))?;
+    }
+    Ok(())
 }
 
 fn print_reading(out: &mut impl Write, limit: u32, bits: u32, reading: Reading) -> io::Result<()> {

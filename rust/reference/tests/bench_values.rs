@@ -1,4 +1,5 @@
-//! The paper's bench values, and its five wrong and inviting ones.
+//! The paper's bench values, with readings counted as ticket 1 says, and its
+//! five wrong and inviting ones.
 
 mod common;
 
@@ -16,12 +17,29 @@ fn volts(bits: u32) -> Option<u32> {
 
 #[test]
 fn readings() {
-    assert_eq!(volts(0x42C8_3333), Some(100_099));
+    assert_eq!(volts(0x42C8_3333), Some(100_100));
     assert_eq!(volts(0x4348_0000), Some(200_000));
     assert_eq!(volts(0x4348_0001), None);
     assert_eq!(volts(0x8000_0000), Some(0));
     assert_eq!(volts(0x0000_0001), Some(0));
     assert_eq!(volts(0x7FC0_0000), None);
+}
+
+#[test]
+fn the_range_test_comes_first() {
+    // 199.9996 V and 200.00002 V are both nearest to 200,000 mV.
+    assert_eq!(199.9996_f32.to_bits(), 0x4347_FFE6);
+    assert_eq!(volts(0x4347_FFE6), Some(200_000));
+    assert_eq!((f64::from(f32::from_bits(0x4348_0001)) * 1_000.0).round(), 200_000.0);
+    assert_eq!(volts(0x4348_0001), None);
+}
+
+#[test]
+fn half_a_thousandth() {
+    let [short, reached] = [0x3A03_126E, 0x3A03_126F].map(|bits| f64::from(f32::from_bits(bits)) * 1_000.0);
+    assert!(short < 0.5 && 0.5 <= reached);
+    assert_eq!(volts(0x3A03_126E), Some(0));
+    assert_eq!(volts(0x3A03_126F), Some(1));
 }
 
 #[test]
@@ -148,11 +166,22 @@ fn t7_of_0_drops_the_command_as_the_contact_closes() {
 
 // Wrong and inviting.
 
+/// Multiplied by 1,000 in floats and then rounded.
+fn product_in_floats(bits: u32) -> u32 {
+    (f32::from_bits(bits) * 1_000.0).round() as u32
+}
+
 #[test]
 fn not_multiplied_in_floats() {
-    let x = f32::from_bits(0x42C8_3333);
-    assert_eq!((x * 1_000.0) as u32, 100_100);
-    assert_eq!(thousandths(x, 200), Some(100_099));
+    let (bench, wrong) = (0x42C8_3333, 0x42C8_3168);
+    // 100,096.4966 mV; the product in floats is 100,096.5.
+    assert_eq!(product_in_floats(wrong), 100_097);
+    assert_eq!(volts(wrong), Some(100_096));
+    // At the bench value, and wherever nearer to it, the product is right.
+    let near = bench - wrong - 1;
+    for bits in bench - near..=bench + near {
+        assert_eq!(Some(product_in_floats(bits)), volts(bits), "{bits:#x}");
+    }
 }
 
 #[test]

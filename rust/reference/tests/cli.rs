@@ -7,7 +7,7 @@ use std::process::{Command, Output};
 use reference::recording::{sheet_to_bytes, READING_BYTES, SHEET_BYTES, TICK_BYTES};
 use reference::scene::Scene;
 use reference::sheet::SLOTS;
-use reference::values::BASE;
+use reference::values::{AGAINST_200, AGAINST_40, BASE, HELD_AGAINST_200};
 
 fn reference(words: &[&str]) -> Output {
     Command::new(env!("CARGO_BIN_EXE_reference")).args(words).output().unwrap()
@@ -46,8 +46,10 @@ fn values_have_all_their_lines() {
     let output = reference(&["values"]);
     assert!(output.status.success());
     let lines = text(&output.stdout);
-    assert_eq!(lines.lines().count(), 18 + 3 + 1 + 1 + 4 + 2 * SLOTS + 256);
-    assert!(lines.starts_with("reading 200 1120416563 100099\nreading 200 1128792064 200000\n"));
+    let readings = AGAINST_200.len() + AGAINST_40.len() + HELD_AGAINST_200.len();
+    assert_eq!(lines.lines().count(), readings + 1 + 4 + 2 * SLOTS + 256);
+    assert!(lines.starts_with("reading 200 1120416563 100100\nreading 200 1128792064 200000\n"));
+    assert!(lines.contains("\nreading 200 1128792064 200000\nreading 200 1031798784 63\nreadings 20000 "));
     assert!(lines.contains("\nsheet 0 0\nsheet 1 0\nsheet 1 0\nsheet 1 0\nslot 0 "));
 }
 

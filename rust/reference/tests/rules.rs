@@ -3,29 +3,92 @@
 mod common;
 
 use common::*;
-use reference::input::bit;
-use reference::reading::{thousandths, Reading};
+use reference::input::{bit, Input};
+use reference::reading::{amp_limit, thousandths, Reading};
 use reference::record::{Drive, Fault, Record, CURRENT_ORGANS, ORGANS};
 use reference::sheet::slot;
 use reference::tick::OUTPUTS;
+use reference::values::{base_5a, BASE};
 
 // Readings.
 
+/// 1,000 x to the nearest whole number, a half going up. f64 is exact here: the
+/// float's 24 bits and the 10 of 1,000 fit into its 53, and its `round` takes a
+/// half away from zero.
+fn nearest_by_f64(x: f32) -> u32 {
+    (f64::from(x) * 1_000.0).round() as u32
+}
+
+/// The float nearest to so many thousandths, whole or not.
+fn float_near(thousandths: f64) -> f32 {
+    (thousandths / 1_000.0) as f32
+}
+
 #[test]
-fn thousandths_are_the_floor_of_the_exact_product() {
-    // A float times 1,000 is exact in 64 bits.
+fn thousandths_are_nearest_to_the_exact_product() {
     let mut bits: u32 = 1;
     for _ in 0..50_000 {
         bits = bits.wrapping_mul(1_664_525).wrapping_add(1_013_904_223);
         let x = f32::from_bits(bits % 0x4348_0001);
-        let exact = (f64::from(x) * 1_000.0).floor() as u32;
-        assert_eq!(thousandths(x, 200), Some(exact));
+        assert_eq!(thousandths(x, 200), Some(nearest_by_f64(x)));
     }
 }
 
 #[test]
+fn thousandths_about_every_half() {
+    for number in 0..200_000 {
+        let x = float_near(f64::from(number) + 0.5);
+        for x in [x.next_down(), x, x.next_up()] {
+            assert_eq!(thousandths(x, 200), Some(nearest_by_f64(x)), "{x}");
+        }
+    }
+}
+
+#[test]
+fn a_half_goes_up() {
+    // Floats hold these halves exactly; the whole part below is even or odd.
+    let halves = [
+        (0.0625, 63),
+        (0.1875, 188),
+        (0.3125, 313),
+        (39.8125, 39_813),
+        (39.9375, 39_938),
+        (100.0625, 100_063),
+        (100.1875, 100_188),
+        (199.8125, 199_813),
+        (199.9375, 199_938),
+    ];
+    for (x, up) in halves {
+        assert_eq!(f64::from(x) * 1_000.0, f64::from(up) - 0.5);
+        assert_eq!(thousandths(x, 200), Some(up));
+        assert_eq!(thousandths(x.next_down(), 200), Some(up - 1));
+        assert_eq!(thousandths(x.next_up(), 200), Some(up));
+    }
+}
+
+#[test]
+fn currents_of_both_modules() {
+    let amps = |bits, k| thousandths(f32::from_bits(bits), amp_limit(k));
+    for k in [1, 5] {
+        assert_eq!(amps(0x421F_FF97, k), Some(40_000)); // 39.9996 A
+        assert_eq!(amps(0x421F_C000, k), Some(39_938)); // 39.9375 A
+        assert_eq!(amps(0x421F_BFFF, k), Some(39_937));
+        assert_eq!(amps(0x4220_0000, k), Some(40_000));
+    }
+    // Just above 40 A: missing with 1 A, although 40,000 mA is nearest.
+    assert_eq!(amps(0x4220_0001, 1), None);
+    assert_eq!(amps(0x4220_0001, 5), Some(40_000));
+    // 199.9375 A, 199.9996 A, 200 A and just above.
+    assert_eq!(amps(0x4347_F000, 5), Some(199_938));
+    assert_eq!(amps(0x4347_FFE6, 5), Some(200_000));
+    assert_eq!(amps(0x4348_0000, 5), Some(200_000));
+    assert_eq!(amps(0x4348_0001, 5), None);
+}
+
+#[test]
 fn missing_numbers() {
-    for x in [f32::NAN, f32::INFINITY, f32::NEG_INFINITY, -1.0, -1e-45] {
+    // The last two are nearest to 0.
+    for x in [f32::NAN, f32::INFINITY, f32::NEG_INFINITY, -1.0, -0.0004, -1e-45] {
         assert_eq!(thousandths(x, 200), None);
     }
     assert_eq!(thousandths(40.0, 40), Some(40_000));
@@ -128,6 +191,28 @@ fn section_by_load_current() {
     }
 }
 
+#[test]
+fn load_current_to_the_nearest() {
+    let cases = [
+        (BASE, 100, float_near(100.4), 0),
+        (BASE, 100, float_near(100.6), 1),
+        (BASE, 62, 0.0625_f32.next_down(), 0),
+        (BASE, 62, 0.0625, 1),
+        (base_5a(), 500, float_near(500.4), 0),
+        (base_5a(), 500, float_near(500.6), 1),
+        (base_5a(), 312, 0.3125_f32.next_down(), 0),
+        (base_5a(), 312, 0.3125, 1),
+    ];
+    for (mut sheet, set, amps, section) in cases {
+        sheet[slot::SECTION_NEEDS_CURRENT] = 1;
+        sheet[slot::I_SET3] = set;
+        let mut input = calm();
+        input.i_bus = Reading::Good(amps);
+        let outputs = step(&mut Record::start(&sheet).unwrap(), &input);
+        assert_eq!(outputs[2], section, "{amps} A over {set} mA");
+    }
+}
+
 // Rule 4.
 
 #[test]
@@ -155,7 +240,7 @@ fn no_tap_source_or_a_counted_tap_reads_no_lines() {
 // Rule 5.
 
 /// Outputs of a fresh regulator without delays after one tick.
-fn trips_at_once(change: impl Fn(&mut reference::input::Input)) -> [u32; ORGANS] {
+fn trips_at_once(change: impl Fn(&mut Input)) -> [u32; ORGANS] {
     let no_delay: Vec<_> = (0..ORGANS).map(|i| (slot::T9 + i, 0)).collect();
     let mut input = calm();
     change(&mut input);
@@ -185,6 +270,59 @@ fn at_the_set_value_no_organ_trips() {
     assert_eq!(at_set, [0; ORGANS]);
     assert_eq!(trips_at_once(|i| i.i_bus = good(100)), [0; ORGANS]);
     assert_eq!(trips_at_once(|i| i.u_ab = good(90_000)), [0; ORGANS]);
+}
+
+/// Each organ's set value and its reading.
+type Watched = (usize, fn(&mut Input) -> &mut Reading);
+
+const WATCHED: [Watched; ORGANS] = [
+    (slot::I_SET1, |input| &mut input.i_high),
+    (slot::I_SET2, |input| &mut input.i_bus),
+    (slot::I_SET3, |input| &mut input.i_bus),
+    (slot::U_SET1, |input| &mut input.u_ab),
+    (slot::U_SET2, |input| &mut input.u_ab),
+    (slot::U_SET3, |input| &mut input.u_zero),
+    (slot::U_SET4, |input| &mut input.u_negative),
+];
+
+const UNDER_ORGANS: [usize; 2] = [2, 4];
+
+#[test]
+fn readings_feed_the_organs_to_the_nearest() {
+    for (organ, (set, reading)) in WATCHED.into_iter().enumerate() {
+        let beyond = if UNDER_ORGANS.contains(&organ) { -1.0 } else { 1.0 };
+        for (by, trip) in [(0.4, 0), (0.6, 1)] {
+            let x = float_near(f64::from(BASE[set]) + beyond * by);
+            for quality in [Reading::Held as fn(f32) -> Reading, Reading::Good] {
+                let trips = trips_at_once(|input| *reading(input) = quality(x));
+                assert_eq!(trips[organ], trip, "organ {organ}, {:?}", quality(x));
+            }
+        }
+    }
+}
+
+#[test]
+fn a_half_above_the_set_value_trips() {
+    for (amps, trip) in [(0.1875_f32.next_down(), 0), (0.1875, 1)] {
+        let mut record = fresh(&[(slot::I_SET1, 187), (slot::T9, 0)]);
+        let mut input = calm();
+        input.i_high = Reading::Held(amps);
+        assert_eq!(step(&mut record, &input)[6], trip);
+    }
+}
+
+#[test]
+fn organs_let_go_by_the_nearest() {
+    // Over 120,000: kept at 114,000. Under 90,000: kept at 94,500.
+    for (organ, first, then, trip) in
+        [(3, 120_001, 113_999.6, 1), (3, 120_001, 113_999.4, 0), (4, 89_999, 94_500.4, 1), (4, 89_999, 94_500.6, 0)]
+    {
+        let mut record = fresh(&[(slot::T9 + organ, 0)]);
+        let mut input = auto(first, &[]);
+        assert_eq!(step(&mut record, &input)[6 + organ], 1);
+        input.u_ab = Reading::Held(float_near(then));
+        assert_eq!(step(&mut record, &input)[6 + organ], trip, "{then} mV");
+    }
 }
 
 #[test]
@@ -231,9 +369,39 @@ fn the_highest_support_bit_counts() {
     }
 }
 
+#[test]
+fn band_edges_by_the_nearest() {
+    // 100,100 mV is the low edge with the first U_supp, the high with the second.
+    let (support_above, support_below) = (101_100, 99_100);
+    for (support, volts, sides) in [
+        (support_above, 100.1, [1, 0]),
+        (support_above, 100.1004, [1, 0]),
+        (support_above, 100.1006, [0, 0]),
+        (support_below, 100.1, [0, 1]),
+        (support_below, 100.0996, [0, 1]),
+        (support_below, 100.0994, [0, 0]),
+    ] {
+        let mut input = auto(0, &[]);
+        input.u_ab = Reading::Good(volts);
+        let outputs = step(&mut fresh(&[(slot::U_SUPP, support)]), &input);
+        assert_eq!(outputs[17..=18], sides, "{volts} V");
+    }
+}
+
+#[test]
+fn compensation_by_the_nearest_current() {
+    // U_comp 5,000 mV at 1 A: 400 mA take 2,000 mV, which brings U to the low edge.
+    let sheet = [(slot::COMPENSATION, 1), (slot::COMPENSATION_CURRENT, 0)];
+    for (amps, low) in [(0.3994, 0), (0.3996, 1), (0.4004, 1)] {
+        let mut input = auto(101_000, &[]);
+        input.i_bus = Reading::Good(amps);
+        assert_eq!(step(&mut fresh(&sheet), &input)[17], low, "{amps} A");
+    }
+}
+
 /// Whether U is missing: with the section there and no organ tripped, only
 /// that blocks automatic.
-fn u_missing(current: u32, change: impl Fn(&mut reference::input::Input)) -> bool {
+fn u_missing(current: u32, change: impl Fn(&mut Input)) -> bool {
     let sheet = [(slot::COMPENSATION, 1), (slot::COMPENSATION_CURRENT, current)];
     let mut input = auto(100_000, &[]);
     change(&mut input);
@@ -277,7 +445,7 @@ fn u_may_fall_below_0() {
 // Rule 8.
 
 /// Outputs 13 to 16 of a fresh regulator after one tick.
-fn blocked(changes: &[(usize, u32)], input: &reference::input::Input) -> [u32; 4] {
+fn blocked(changes: &[(usize, u32)], input: &Input) -> [u32; 4] {
     let outputs = step(&mut fresh(changes), input);
     outputs[13..=16].try_into().unwrap()
 }
@@ -304,7 +472,7 @@ fn a_fault_blocks_on_its_own_tick() {
 }
 
 /// Something that makes organ `i` trip.
-fn disturbance(i: usize) -> reference::input::Input {
+fn disturbance(i: usize) -> Input {
     let mut input = calm();
     match i {
         0 => input.i_high = good(2_000),
