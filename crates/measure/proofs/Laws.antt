@@ -232,14 +232,17 @@ module _ (k : ℕ) (few : k ≤ 2000) (n d b : ℕ) (p : Parts n d b) where
   pub floor-is : 116 ≤ exponent b → k * (b % 0x80_0000 + 0x80_0000) / 2 ^ (150 - exponent b) ≡ k * n / d
   floor-is l = sym (equal (λ (a c : ℕ). k * a / c) (floor-same k) n d (b % 0x80_0000 + 0x80_0000) (2 ^ (150 - exponent b)) (p .over) (pow-pos (150 - exponent b)) (p .above l .1))
 
-  pub floor-le : k * n / d ≤ 400000
+  floor-le : k * n / d ≤ 400000
   floor-le = let h = p .upper in let m : k * n ≤ 2000 * n = mul-le-mul-right n few in div-le-of-le-mul d (le-trans {m = 400000 * d} (omega arith) (le-of-eq (mul-comm 400000 d)))
+
+  pub shifted-le : 116 ≤ exponent b → k * (b % 0x80_0000 + 0x80_0000) / 2 ^ (150 - exponent b) ≤ 400000
+  shifted-le l = rw (floor-is l) floor-le
 
 -- the nearest whole number, by the whole number of halves
 pub halved : (n d halves : ℕ) → 0 < d → halves ≡ 2 * n / d → (halves + 1) / 2 ≡ nearest n d
 halved n d halves D e = ap (λ (z : ℕ). (z + 1) / 2) e ∙ ap (λ (z : ℕ). z / 2) (sym (add-div-right (2 * n) D)) ∙ div-div-eq-div-mul (2 * n + d) d 2 ∙ ap (λ (z : ℕ). (2 * n + d) / z) (mul-comm d 2)
 
--- a fraction that is not above a whole number has none above it nearest
+-- where a fraction is not above the whole number m, neither is the one nearest to it
 pub nearest-le : (n d m : ℕ) → 0 < d → n ≤ m * d → nearest n d ≤ m
 nearest-le n d m D h = omega (arith, div-lt-iff-lt-mul {k = 2 * d} {x = 2 * n + d} {y = m + 1} (omega arith) .1 (omega (arith, h)))
 
