@@ -25,7 +25,7 @@
 extern "C" {
 #endif
 
-#define AVR_SLOTS 63   /* numbers of a setting sheet */
+#define AVR_SLOTS 64   /* numbers of a setting sheet */
 #define AVR_ORGANS 7   /* measuring organs */
 #define AVR_READINGS 6 /* readings of a tick */
 #define AVR_FIELDS 28  /* outputs of a tick */
@@ -99,6 +99,7 @@ enum avr_slot {
     AVR_SLOT_N8 = 60,                   /* N8: sliding tap 8, 0 = empty; 0-40 */
     AVR_SLOT_N9 = 61,                   /* N9: sliding tap 9, 0 = empty; 0-40 */
     AVR_SLOT_N10 = 62,                  /* N10: sliding tap 10, 0 = empty; 0-40 */
+    AVR_SLOT_CONTINUOUS = 63,           /* XB2: regulation: 0 impulse, by the drive's switching contact, 1 continuous, without it; 0-1 */
 
     /* The first slot of each run: the organs in the order of their outputs, U_supp 1 to 4, the sliding taps 1 to 10. */
     AVR_SLOT_ORGANS_ON = AVR_SLOT_ON_I_HIGH_OVER_I_SET1,
@@ -111,7 +112,7 @@ enum avr_slot {
 /* The contacts and keys of a tick, as masks: a contact that is on has its bit set. The bits after them are ignored. */
 enum avr_contact {
     AVR_CONTACT_BREAKER_CLOSED = 1 << 0, /* infeed breaker closed */
-    AVR_CONTACT_SWITCHING = 1 << 1,      /* the drive's switching contact is closed */
+    AVR_CONTACT_SWITCHING = 1 << 1,      /* the drive's switching contact is closed; ignored with continuous regulation */
     AVR_CONTACT_SUPPLY_OFF = 1 << 2,     /* the drive's supply is off; blocks */
     AVR_CONTACT_OIL_COLD = 1 << 3,       /* oil cold; blocks */
     AVR_CONTACT_OIL_LOW = 1 << 4,        /* oil level low; blocks */
@@ -156,7 +157,7 @@ enum avr_out {
     AVR_OUT_HIGH = 18,                      /* U is at or above the high edge of the band, 0 or 1 */
     AVR_OUT_RUN_AWAY = 19,                  /* fault: the drive moved without a command, 0 or 1 */
     AVR_OUT_NOT_STARTED = 20,               /* fault: the drive did not start within T5, 0 or 1 */
-    AVR_OUT_LONG = 21,                      /* fault: a move longer than T4, 0 or 1 */
+    AVR_OUT_LONG = 21,                      /* fault: a move longer than T4, or a continuous command that T4 ended, 0 or 1 */
     AVR_OUT_FAST = 22,                      /* fault: a commanded move shorter than T6, 0 or 1 */
     AVR_OUT_SUPPLY_TRIP = 23,               /* trip the drive's supply, 0 or 1 */
     AVR_OUT_ASKED_OR_MOVING = 24,           /* the drive is asked or moves, 0 or 1 */
@@ -171,7 +172,8 @@ enum avr_answer {
     AVR_REFUSED_LENGTH = 1,    /* a list that has not AVR_SLOTS numbers */
     AVR_REFUSED_RANGE = 2,     /* a slot out of its range */
     AVR_REFUSED_TAP_ORDER = 3, /* N_R not above N_L, or N_pos outside them */
-    AVR_REFUSED_IMAGE = 4      /* a tick of an image that is no record's, or of a record outside its limits */
+    AVR_REFUSED_IMAGE = 4,     /* a tick of an image that is no record's, or of a record outside its limits */
+    AVR_REFUSED_COUNTED = 5    /* continuous regulation, and a counted tap: no contact tells of a move */
 };
 
 /* The quality of a reading. */
@@ -184,9 +186,10 @@ enum avr_quality {
 /* What the drive does. */
 enum avr_drive_kind {
     AVR_DRIVE_RESTING = 0,        /* neither asked nor moving */
-    AVR_DRIVE_ASKED = 1,          /* a command is on and the contact has not closed yet */
+    AVR_DRIVE_ASKED = 1,          /* an automatic command is on and the contact has not closed yet, or there is none */
     AVR_DRIVE_COMMANDED_MOVE = 2, /* the contact is closed after a command */
-    AVR_DRIVE_OWN_MOVE = 3        /* the drive goes on by itself from a sliding tap */
+    AVR_DRIVE_OWN_MOVE = 3,       /* the drive goes on by itself from a sliding tap */
+    AVR_DRIVE_ASKED_MANUALLY = 4  /* as AVR_DRIVE_ASKED, by a manual command */
 };
 
 /* Where a command or a move goes. */
@@ -207,7 +210,7 @@ enum avr_fault {
     AVR_FAULT_NONE = 0,        /* no fault is latched */
     AVR_FAULT_RUN_AWAY = 1,    /* the contact closed without a command */
     AVR_FAULT_NOT_STARTED = 2, /* the contact did not close within T5 */
-    AVR_FAULT_LONG = 3,        /* closed for more than T4 */
+    AVR_FAULT_LONG = 3,        /* closed for more than T4, or a continuous command that T4 ended */
     AVR_FAULT_FAST = 4         /* a commanded move shorter than T6 */
 };
 
@@ -244,7 +247,7 @@ typedef struct {
     uint32_t fault;     /* enum avr_fault */
     uint32_t fault_age; /* ticks that it has lasted, held at T8 */
     avr_wait wait;
-    uint32_t repeat; /* enum avr_way: the last automatic command, while T2 goes by it */
+    uint32_t repeat; /* enum avr_way: the last automatic command, until U is in band, on the other side, or the mode manual */
     uint32_t last;   /* enum avr_way: where the last ended move went */
     uint32_t counted_tap;
     uint32_t operations;
@@ -300,6 +303,7 @@ typedef struct {
  * AVR_ACCEPTED: slot 0, the image of the fresh record.
  * AVR_REFUSED_LENGTH: slot 0. AVR_REFUSED_RANGE: the lowest such slot.
  * AVR_REFUSED_TAP_ORDER: AVR_SLOT_N_R where N_R <= N_L, else AVR_SLOT_N_POS.
+ * AVR_REFUSED_COUNTED: AVR_SLOT_CONTINUOUS.
  * The image is then all zeros, and every tick of it is refused.
  */
 avr_started avr_start(const uint32_t *list, size_t length);

@@ -1,2 +1,3 @@
+pub mod EachKind
 pub mod Parts
 pub mod Made

@@ -1,10 +1,8 @@
 -- The definitions that go by a case, as `search` follows them: `search parts`.
 -- Assumes nothing.
 use mathlib.Core.Path.{_≡_}
-use mathlib.Core.List.{List}
-use Prim.Native.Nat.{ℕ}
+use mathlib.Core.Bool.{Bool}
 use Rattle.common.proofs.Cases.{cases}
-use Rattle.measure.specs.declared.Measured.the-variants as measured
 use Rattle.busbar.specs.declared.voltage.Level.{Level}
 use Rattle.busbar.specs.declared.voltage.Level.the-variants.{Missing, Low, InBand, High}
 use Rattle.ways.specs.declared.Direction.{Direction}
@@ -13,8 +11,8 @@ use Rattle.drive.specs.declared.Drive.{Drive}
 use Rattle.drive.specs.declared.Drive.the-variants.{Asked}
 use Rattle.ways.specs.declared.Way.{Way}
 use Rattle.ways.specs.declared.Way.the-variants.{Neither, To}
-use Rattle.acting.specs.Commanding.{sideOf, askOf}
-use Rattle.acting.specs.Accounting.{oneMoreOf, operationsOf}
+use Rattle.acting.specs.Judging.{sideOf}
+use Rattle.acting.specs.Commanding.{askOf}
 
 module _ (w : Way) (l : Level) where
   pub side-missing : l ≡ Missing → w ≡ Neither → w ≡ sideOf l
@@ -33,22 +31,13 @@ module _ (w : Way) (l : Level) where
   unfolding sideOf
   side-high p q = rw p q
 
-module _ (r d : Drive) (w : Way) where
-  pub ask-neither : w ≡ Neither → r ≡ d → r ≡ askOf d w
+module _ (r d : Drive) (b : Bool) (w : Way) where
+  pub ask-neither : w ≡ Neither → r ≡ d → r ≡ askOf d b w
   unfolding askOf
   ask-neither p q = rw p q
 
-  pub ask-to : (e : Direction) → w ≡ To e → r ≡ Asked e 0 → r ≡ askOf d w
+  pub ask-to : (e : Direction) → w ≡ To e → r ≡ Asked e 0 b → r ≡ askOf d b w
   unfolding askOf
   ask-to e p q = rw p q
 
-module _ (r n : ℕ) (s : List ℕ) (w : Way) where
-  pub operations-neither : w ≡ Neither → r ≡ n → r ≡ operationsOf s n w
-  unfolding operationsOf
-  operations-neither p q = rw p q
-
-  pub operations-to : (d : Direction) → w ≡ To d → r ≡ oneMoreOf s n → r ≡ operationsOf s n w
-  unfolding operationsOf
-  operations-to d p q = rw p q
-
-pub ruleset parts = (side-missing, side-low, side-in-band, side-high, ask-neither, ask-to, operations-neither, operations-to, cases)
+pub ruleset parts = (side-missing, side-low, side-in-band, side-high, ask-neither, ask-to, cases)

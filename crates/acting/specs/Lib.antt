@@ -1,3 +1,4 @@
+pub mod Judging
 pub mod Supervising
 pub mod Commanding
 pub mod Accounting

@@ -1,4 +1,5 @@
-// Rule 7: what an ended move leaves: the last direction, the operations, the counted tap.
+// Rule 7: what an ended move leaves: the last direction, the operations, the counted tap. Without a switching contact an ended
+// command leaves an operation.
 ghost use mathlib.Core.Path.{_≡_};
 ghost use Rattle.acting.specs.Accounting.{oneMoreOf, operationsOf, accountedOf};
 use slots::SLOTS;
@@ -23,20 +24,24 @@ fn one_more(s: &[u32; SLOTS], n: u32) -> u32
     }
 }
 
-fn count_operation(s: &[u32; SLOTS], n: u32, ended: Way) -> u32
-    ensures { λ r. ⌜ r ≡ operationsOf (now (s .entry)) n ended ⌝ }
+fn count_operation(s: &[u32; SLOTS], n: u32, operation: bool) -> u32
+    ensures { λ r. ⌜ r ≡ operationsOf (now (s .entry)) n operation ⌝ }
 {
-    match ended {
-        Way::Neither => n,
-        Way::To(_) => one_more(s, n),
-    }
+    if operation { one_more(s, n) } else { n }
 }
 
-pub fn account(s: &[u32; SLOTS], ended: Way, last: Way, operations: u32, tap: u32) -> Accounted
-    ensures { λ r. ⌜ r ≡ accountedOf (now (s .entry)) ended last operations tap ⌝ }
+pub fn account(
+    s: &[u32; SLOTS],
+    ended: Way,
+    operation: bool,
+    last: Way,
+    operations: u32,
+    tap: u32,
+) -> Accounted
+    ensures { λ r. ⌜ r ≡ accountedOf (now (s .entry)) ended operation last operations tap ⌝ }
 {
     let latest = ways::newer(ended, last);
-    let n = count_operation(s, operations, ended);
+    let n = count_operation(s, operations, operation);
     let counted = tap::counted::count_move(s, tap, ended);
     Accounted {
         last: latest,

@@ -1,87 +1,27 @@
-// Rule 8, the blocks; rule 9, the wait and the command.
+// Rule 9, the wait and the command.
 ghost use mathlib.Core.Path.{_≡_};
-ghost use Rattle.acting.specs.Commanding.{sideOf, isMissing, isInBand, blockedOf, askOf, situationOf, regulatedOf};
+ghost use Rattle.acting.specs.Commanding.{askOf, situationOf, regulatedOf};
+use crate::judging;
 use blocks::Blocks;
-use blocks::Found;
-use busbar::voltage::Level;
 use command::Buttons;
 use command::Situation;
 use command::Wait;
 use drive::Drive;
-use fault::Fault;
 use input::Contacts;
 use sensing::assessing::Assessed;
 use slots::SLOTS;
-use ways::Direction;
 use ways::Way;
 
-// The command that a deviation asks for: low a raise, high a lower.
-fn side_of(l: Level) -> Way
-    ensures { λ r. ⌜ r ≡ sideOf l ⌝ }
-{
-    match l {
-        Level::Missing => Way::Neither,
-        Level::Low => Way::To(Direction::Raise),
-        Level::InBand => Way::Neither,
-        Level::High => Way::To(Direction::Lower),
-    }
-}
-
-fn is_missing(l: Level) -> bool
-    ensures { λ r. ⌜ r ≡ isMissing l ⌝ }
-{
-    match l {
-        Level::Missing => true,
-        Level::Low => false,
-        Level::InBand => false,
-        Level::High => false,
-    }
-}
-
-fn is_in_band(l: Level) -> bool
-    ensures { λ r. ⌜ r ≡ isInBand l ⌝ }
-{
-    match l {
-        Level::Missing => false,
-        Level::Low => false,
-        Level::InBand => true,
-        Level::High => false,
-    }
-}
-
-// Rule 8, from what the rules before have found.
-pub fn block(
-    s: &[u32; SLOTS],
-    c: Contacts,
-    f: Fault,
-    section: bool,
-    l: Level,
-    trips: [bool; 7],
-    tap: u32,
-) -> Blocks
-    ensures { λ r. ⌜ r ≡ blockedOf (now (s .entry)) c f section l trips tap ⌝ }
-{
-    let fault = fault::is_fault(f);
-    let missing = is_missing(l);
-    let found = Found {
-        fault: fault,
-        section: section,
-        u_missing: missing,
-        trips: trips,
-        tap: tap,
-    };
-    blocks::judge_blocks(s, c, found)
-}
-
-// The drive once a command has begun.
-fn ask(d: Drive, command: Way) -> Drive
-    ensures { λ r. ⌜ r ≡ askOf d command ⌝ }
+// The drive once a command has begun, in this mode.
+fn ask(d: Drive, automatic: bool, command: Way) -> Drive
+    ensures { λ r. ⌜ r ≡ askOf d automatic command ⌝ }
 {
     match command {
         Way::Neither => d,
         Way::To(e) => Drive::Asked {
             direction: e,
             age: 0,
+            automatic: automatic,
         },
     }
 }
@@ -107,7 +47,7 @@ fn situation(c: Contacts, a: Assessed, b: Blocks, m: Memory, d: Drive) -> Situat
     let rested = drive::follow::rests(was);
     let rests = drive::follow::rests(d);
     let level = a.level;
-    let side = side_of(level);
+    let side = judging::side_of(level);
     let wait = m.wait;
     let repeat = m.repeat;
     let before = m.buttons;
@@ -143,11 +83,11 @@ pub fn regulate(
     let command = decided.command;
     let wait = decided.wait;
     let level = a.level;
-    let side = side_of(level);
-    let band = is_in_band(level);
+    let side = judging::side_of(level);
+    let band = judging::is_in_band(level);
     let old = m.repeat;
     let repeat = command::automatic::next_repeat(c.automatic, band, side, command, old);
-    let drive = ask(d, command);
+    let drive = ask(d, c.automatic, command);
     Regulated {
         drive: drive,
         wait: wait,

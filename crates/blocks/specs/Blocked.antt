@@ -5,6 +5,8 @@ use mathlib.Core.List.{List}
 use lib.ListN.{getD}
 use lib.Dec.{eqb}
 use Rattle.slots.specs.Slots.{slot, tapSource, currentOrgans, voltageOrgans, endTapBlock, organsBlockManual, nL, nR}
+use Rattle.ways.specs.declared.Direction.{Direction}
+use Rattle.ways.specs.declared.Direction.the-variants.{Raise, Lower}
 use Rattle.input.specs.declared.Contacts.{Contacts}
 use Rattle.blocks.specs.declared.Found.{Found}
 use Rattle.blocks.specs.declared.Blocks.{Blocks}
@@ -57,3 +59,8 @@ lowerOf s c f = commonOf c (f .fault) || c .«end_down» || c .«lower_block» |
 
 unfoldable pub blocksOf : List ℕ → Contacts → Found → Blocks
 blocksOf s c f = record { automatic = automaticOf s c f; manual = manualOf s c f; raise = raiseOf s c f; lower = lowerOf s c f }
+
+-- the direction's own block
+abbrev pub opposedOf : Blocks → Direction → Bool
+opposedOf b Raise = b .raise
+opposedOf b Lower = b .lower

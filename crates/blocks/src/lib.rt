@@ -1,6 +1,6 @@
 // Rule 8: what each tick blocks.
 ghost use mathlib.Core.Path.{_≡_};
-ghost use Rattle.blocks.specs.Blocked.{commonOf, endOf, organsAutomaticOf, anyTripOf, tapLostOf, blocksOf};
+ghost use Rattle.blocks.specs.Blocked.{commonOf, endOf, organsAutomaticOf, anyTripOf, tapLostOf, blocksOf, opposedOf};
 use input::Contacts;
 use slots::CURRENT_ORGANS;
 use slots::END_TAP_BLOCK;
@@ -10,6 +10,7 @@ use slots::ORGANS_BLOCK_MANUAL;
 use slots::SLOTS;
 use slots::TAP_SOURCE;
 use slots::VOLTAGE_ORGANS;
+use ways::Direction;
 
 // What the rules before have found on this tick.
 pub struct Found {
@@ -90,5 +91,15 @@ pub fn judge_blocks(s: &[u32; SLOTS], c: Contacts, f: Found) -> Blocks
         manual: common | (manual_too & tripped),
         raise: common | c.end_up | c.raise_block | raise_end,
         lower: common | c.end_down | c.lower_block | lower_end,
+    }
+}
+
+// Whether the direction of a command is blocked.
+pub fn opposes(b: Blocks, d: Direction) -> bool
+    ensures { λ r. ⌜ r ≡ opposedOf b d ⌝ }
+{
+    match d {
+        Direction::Raise => b.raise,
+        Direction::Lower => b.lower,
     }
 }

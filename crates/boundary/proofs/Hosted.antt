@@ -12,7 +12,7 @@ use Rattle.record.specs.declared.Regulator.{Regulator}
 use Rattle.record.specs.declared.starting.Started.{Started}
 use Rattle.record.specs.Limits.{withinOf}
 use Rattle.sheet.specs.declared.Answer.{Answer}
-use Rattle.sheet.specs.declared.Answer.the-variants.{Taken, WrongLength, OutOfRange, TapOrder}
+use Rattle.sheet.specs.declared.Answer.the-variants.{Taken, WrongLength, OutOfRange, TapOrder, CountedTap}
 use Rattle.sheet.specs.Settings.{Settings}
 use Rattle.sheet.specs.Sheet.{numberOf}
 use Rattle.claim.specs.Claim.{Kept}
@@ -104,6 +104,7 @@ taken-of Taken p = refl
 taken-of WrongLength p = absurd (omega arith)
 taken-of (OutOfRange i) p = absurd (omega arith)
 taken-of (TapOrder i) p = absurd (omega arith)
+taken-of CountedTap p = absurd (omega arith)
 
 module _ (s : Started) {n : ℕ} (e : n ≡ numberOf (s .answer)) where
   pub started-exactly : {l : List ℕ} → (s .answer ≡ Taken) ↔ Settings l → (n ≡ 0) ↔ Settings l

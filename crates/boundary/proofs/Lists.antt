@@ -45,7 +45,8 @@ module _ (r : Regulator) where
   rest-of : (d : Drive) → r .drive ≡ d → imageRests (imageOf r) ≡ restsOf (r .drive)
   unfolding imageOf driveImage
   rest-of Resting e = rw e
-  rest-of (Asked d n) e = rw e
+  rest-of (Asked d n true) e = rw e
+  rest-of (Asked d n false) e = rw e
   rest-of (Moving d n true) e = rw e
   rest-of (Moving d n false) e = rw e
 

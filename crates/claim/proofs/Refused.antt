@@ -32,5 +32,5 @@ module _ (o : Opening) (l : List Tick) (outside : o .within ≡ false) (all : Al
         unblocked = λ d. all-map l (λ t h b. absurd (never t h (b .accepted))) all;
         latest = λ d pre front t post e a w n. absurd (never t (row-at pre front t post e) (w .lasting .accepted));
         exactly = λ d n pre front t post e z a w f g. absurd (never t (row-at pre front t post e) (w .lasting .accepted));
-        again = λ d pre first row post e b n h. absurd (never first (at pre first (row ++ post) e) (b .accepted));
+        again = λ d pre first row post e c b n h. absurd (never first (at pre first (row ++ post) e) (b .accepted));
       }

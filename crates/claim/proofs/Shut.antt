@@ -11,14 +11,18 @@ use lib.ListN.{length, length-append, replicate, length-replicate}
 use Rattle.common.specs.Choice.{choose}
 use Rattle.ways.specs.declared.Direction.{Direction}
 use Rattle.ways.specs.declared.Direction.the-variants.{Raise, Lower}
-use Rattle.claim.specs.Claim.{Tick, Opening, All, Begins, Command, Lasting, Waiting, BeganAtZero, InForce, Serves, Kept, closed}
-use Rattle.claim.specs.Scenes.{variedSheet}
+use Rattle.input.specs.Brought.{bitOf}
+use Rattle.claim.specs.Claim.{Tick, Opening, All, Begins, Command, Lasting, Waiting, BeganAtZero, InForce, longest, Serves, Kept, closed}
+use Rattle.claim.specs.Scenes.{variedSheet, heldSheet}
 use Rattle.claim.proofs.Lists.{all-same, all-join, some-none}
-use Rattle.claim.proofs.Ticks.{shows, tickOn, openContact, closedContact, inBand, low, waits, raises, asked, moves, ends, high, zero-one, one-zero, low-lasts, low-waiting, high-waiting, band-not, raises-begins}
+use Rattle.claim.proofs.Ticks.{shows, tickOn, openContact, closedContact, inBand, low, waits, raises, asked, moves, ends, high, heldLow, held-waiting, zero-one, one-zero, low-lasts, low-waiting, high-waiting, band-not, raises-begins}
 
 -- a list begins on a record within its limits, or not, that holds these waits
+abbrev begunOn : (sheet : List ℕ) (within : Bool) (lowWait highWait : ℕ) → Opening
+begunOn sheet within l h = record { within = within; settings = sheet; lowWait = l; highWait = h }
+
 abbrev begun : (within : Bool) (lowWait highWait : ℕ) → Opening
-begun within l h = record { within = within; settings = variedSheet; lowWait = l; highWait = h }
+begun = begunOn variedSheet
 
 -- ---- refusals
 
@@ -69,18 +73,25 @@ no-lower : Begins Lower (high 0 0) → ⊥
 no-lower b = zero-one (b .on)
 
 module _ (within : Bool) (l h : ℕ) (pre post : List Tick) where
-  late : (d : Direction) (t u : Tick) → Waiting d t → Waiting d u → (Begins d t → ⊥) → (Begins d u → ⊥)
-      → Kept (begun within l h) (pre ++ (replicate 24 t ++ (u ∷ post))) → ⊥
-  late d t u v w n m k =
+  late : (sheet : List ℕ) → 25 ≡ longest sheet → (d : Direction) (t u : Tick) → Waiting d t → Waiting d u → (Begins d t → ⊥) → (Begins d u → ⊥)
+      → Kept (begunOn sheet within l h) (pre ++ (replicate 24 t ++ (u ∷ post))) → ⊥
+  late sheet e d t u v w n m k =
       some-none (Begins d) (replicate 24 t ++ (u ∷ []))
       (all-join (λ x. Begins d x → ⊥) (replicate 24 t) (u ∷ []) (all-same (λ x. Begins d x → ⊥) 24 t n) (m, tt))
-      (k .latest d pre (replicate 24 t) u post refl (all-same (Waiting d) 24 t v) w refl)
+      (k .latest d pre (replicate 24 t) u post refl (all-same (Waiting d) 24 t v) w e)
 
   pub late-raise : (delay : ℕ) → Kept (begun within l h) (pre ++ (replicate 24 (waits delay) ++ (waits 21 ∷ post))) → ⊥
-  late-raise delay = late Raise (waits delay) (waits 21) (low-waiting delay 0 0) (low-waiting 21 0 0) (no-raise delay) (no-raise 21)
+  late-raise delay = late variedSheet refl Raise (waits delay) (waits 21) (low-waiting delay 0 0) (low-waiting 21 0 0) (no-raise delay) (no-raise 21)
 
   pub late-lower : Kept (begun within l h) (pre ++ (replicate 24 (high 0 0) ++ (high 0 0 ∷ post))) → ⊥
-  late-lower = late Lower (high 0 0) (high 0 0) (high-waiting 0 0) (high-waiting 0 0) no-lower no-lower
+  late-lower = late variedSheet refl Lower (high 0 0) (high 0 0) (high-waiting 0 0) (high-waiting 0 0) no-lower no-lower
+
+  -- without a switching contact, whatever bit 1 is
+  pub late-held : (contacts : ℕ) → bitOf contacts 13 ≡ false → bitOf contacts 14 ≡ true
+      → Kept (begunOn heldSheet within l h) (pre ++ (replicate 24 (heldLow true contacts 0 0) ++ (heldLow true contacts 0 0 ∷ post))) → ⊥
+  late-held contacts p q =
+      late heldSheet refl Raise (heldLow true contacts 0 0) (heldLow true contacts 0 0) (held-waiting contacts 0 0 p q) (held-waiting contacts 0 0 p q)
+      (λ b. zero-one (b .on)) (λ b. zero-one (b .on))
 
 -- ---- a command that does not begin exactly on its tick
 
@@ -128,6 +139,24 @@ late-under-t3 within l post k =
     no-lower
     (k .exactly Lower 21 [] (replicate 20 (high 0 0)) (high 0 0) post refl refl (all-same (Waiting Lower) 20 (high 0 0) (high-waiting 0 0))
     (high-waiting 0 0) (all-same (InForce Lower 21) 20 (high 0 0) refl) refl .1 refl)
+
+-- without a switching contact, whatever bit 1 is: under T1 a row that opens the list begins its command on the tick numbered T1
+module _ (within : Bool) (h contacts : ℕ) (p : bitOf contacts 13 ≡ false) (q : bitOf contacts 14 ≡ true) (post : List Tick) where
+  held-exactly : (n raise moving : ℕ) → Kept (begunOn heldSheet within 0 h) (replicate n (heldLow true contacts 0 0) ++ (heldLow true contacts raise moving ∷ post))
+      → (Begins Raise (heldLow true contacts raise moving) → n + 1 ≡ 25) × (n + 1 ≡ 25 → Begins Raise (heldLow true contacts raise moving))
+  held-exactly n raise moving k =
+      let e =
+      k .exactly Raise 25 [] (replicate n (heldLow true contacts 0 0)) (heldLow true contacts raise moving) post refl refl
+      (all-same (Waiting Raise) n (heldLow true contacts 0 0) (held-waiting contacts 0 0 p q)) (held-waiting contacts raise moving p q)
+      (all-same (InForce Raise 25) n (heldLow true contacts 0 0) refl) refl in
+      let c : length (replicate n (heldLow true contacts 0 0)) ≡ n = length-replicate n (heldLow true contacts 0 0) in
+      (λ b. let r = e .0 b in omega arith, λ r. e .1 (omega arith))
+
+  pub held-late : Kept (begunOn heldSheet within 0 h) (replicate 24 (heldLow true contacts 0 0) ++ (heldLow true contacts 0 0 ∷ post)) → ⊥
+  held-late k = zero-one (held-exactly 24 0 0 k .1 refl .on)
+
+  pub held-early : Kept (begunOn heldSheet within 0 h) (replicate 22 (heldLow true contacts 0 0) ++ (heldLow true contacts 1 1 ∷ post)) → ⊥
+  held-early k = let e : _≡_ {A = ℕ} 23 25 = held-exactly 22 1 1 k .0 (record { accepted = refl; fromRest = refl; on = refl }) in omega arith
 
 -- it says nothing of a row that opens the list on a record with a wait to its side
 pub held-says-nothing : (within : Bool) (h : ℕ) → BeganAtZero Raise (begun within 10 h) [] → ⊥
@@ -186,7 +215,7 @@ pub never-again : (within : Bool) (l m b h a : ℕ) → b < 22 → 0 < h → 3 �
 never-again within l m b h a inTime closes longEnough shortEnough n first begins pre post k =
     some-none Command (idleRow b h a)
     (all-idle (λ t. Command t → ⊥) b h a (moving-no 25 openContact 1 1) (moving-no 25 closedContact 0 1) (moving-no 25 openContact 0 0) (waits-no 25))
-    (k .again Raise pre first (idleRow b h a) post refl begins (idle-length b h a ∙ n)
+    (k .again Raise pre first (idleRow b h a) post refl refl begins (idle-length b h a ∙ n)
     (λ none. (
       all-idle (Lasting Raise) b h a (low-lasts false 25 openContact 1 1 refl refl) (low-lasts false 25 closedContact 0 1 refl refl)
           (low-lasts false 25 openContact 0 0 refl refl) (low-lasts true 25 openContact 0 0 refl refl),

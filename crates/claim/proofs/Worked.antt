@@ -10,9 +10,9 @@ use lib.ListN.{replicate, take, drop}
 use Rattle.common.specs.Choice.{choose}
 use Rattle.ways.specs.declared.Direction.the-variants.{Raise, Lower}
 use Rattle.claim.specs.Claim.{Tick, Opening, All, Some, Begins, Command, Lasting, Waiting, BeganAtZero, InForce, longest, output, modeField, blockField, Serves, Kept, closed}
-use Rattle.claim.specs.Scenes.{sheetOf, variedSheet}
+use Rattle.claim.specs.Scenes.{sheetOf, variedSheet, heldSheet}
 use Rattle.claim.proofs.Lists.{all-join, all-last, all-same}
-use Rattle.claim.proofs.Ticks.{shows, tickOn, openContact, closedContact, inBand, waits, raises, asked, moves, ends, high, zero-one, low-lasts, low-waiting, high-waiting, band-not, ends-not, raises-begins}
+use Rattle.claim.proofs.Ticks.{shows, tickOn, openContact, closedContact, inBand, waits, raises, asked, moves, ends, high, heldLow, held, heldLong, heldBand, heldHigh, resetContact, zero-one, low-lasts, low-waiting, high-waiting, held-waiting, held-high-waiting, band-not, ends-not, long-not, raises-begins}
 
 -- ---- the lists
 
@@ -22,6 +22,10 @@ freshOpening = record { within = true; settings = variedSheet; lowWait = 0; high
 
 abbrev pub waitingOpening : Opening
 waitingOpening = record { within = true; settings = variedSheet; lowWait = 10; highWait = 0 }
+
+-- without a switching contact
+abbrev pub heldOpening : Opening
+heldOpening = record { within = true; settings = heldSheet; lowWait = 0; highWait = 0 }
 
 abbrev pub outsideOpening : Opening
 outsideOpening = record { within = false; settings = variedSheet; lowWait = 0; highWait = 0 }
@@ -48,6 +52,24 @@ waitingList = replicate 12 (waits 23) ++ (raises 23 ∷ [])
 -- three refused ticks
 abbrev pub outsideList : List Tick
 outsideList = replicate 3 (tickOn true 23 23 openContact 4 (shows []))
+
+-- without a switching contact, bit 1 set throughout. A row under T1, the longest delay, and the command held up to the T4th tick after
+-- its first. There it ends as 'long', and after reset comes a row under T1 again, not under T2; or it ends in band on that very tick.
+abbrev pub heldRow : ℕ → List Tick
+heldRow contacts = replicate 24 (heldLow true contacts 0 0) ++ (heldLow true contacts 1 1 ∷ [])
+
+abbrev pub heldFirst : List Tick
+heldFirst = heldRow closedContact ++ (replicate 23 held ++ (heldLong ∷ []))
+
+abbrev pub heldList : List Tick
+heldList = heldFirst ++ heldRow resetContact
+
+abbrev pub heldBandList : List Tick
+heldBandList = heldRow closedContact ++ (replicate 23 held ++ (heldBand ∷ []))
+
+-- a row to the high side, above U_set5
+abbrev pub heldHighList : List Tick
+heldHighList = replicate 20 (heldHigh 0 0) ++ (heldHigh 1 1 ∷ [])
 
 -- ---- a row after ticks that are no waiting ticks: the command begins on the tick numbered T1
 
@@ -103,7 +125,7 @@ serves =
 
 pub again : Kept freshOpening (servedList 21 24) → Some Command (moveOf 21 24 ++ rowT2)
 again k =
-    k .again Raise (inBand ∷ inBand ∷ replicate 22 (waits 23)) (raises 23) (moveOf 21 24 ++ rowT2) [] refl (raises-begins 23) refl (λ none. (lasts, serves))
+    k .again Raise (inBand ∷ inBand ∷ replicate 22 (waits 23)) (raises 23) (moveOf 21 24 ++ rowT2) [] refl refl (raises-begins 23) refl (λ none. (lasts, serves))
 
 -- ---- a row to the high side under T3, that opens the list on a record with a wait to the other side
 
@@ -123,6 +145,30 @@ unblocked k =
     all-last (λ t. Begins Raise t → (output (modeField (t .contacts)) t ≡ 0) × (output (blockField Raise) t ≡ 0)) (replicate 12 (waits 23)) (raises 23)
     (k .unblocked Raise) (raises-begins 23)
 
+-- ---- without a switching contact: rows with bit 1 set, the first on its bound, the longest delay; after 'long' and reset; above U_set5
+
+pub held-latest : Kept heldOpening heldList → Some (Begins Raise) (heldRow closedContact)
+held-latest k =
+    k .latest Raise [] (replicate 24 (heldLow true closedContact 0 0)) (heldLow true closedContact 1 1) (replicate 23 held ++ (heldLong ∷ heldRow resetContact)) refl
+    (all-same (Waiting Raise) 24 (heldLow true closedContact 0 0) (held-waiting closedContact 0 0 refl refl)) (held-waiting closedContact 1 1 refl refl) refl
+
+pub held-exactly : Kept heldOpening heldList → Begins Raise (heldLow true closedContact 1 1)
+held-exactly k =
+    k .exactly Raise 25 [] (replicate 24 (heldLow true closedContact 0 0)) (heldLow true closedContact 1 1) (replicate 23 held ++ (heldLong ∷ heldRow resetContact)) refl refl
+    (all-same (Waiting Raise) 24 (heldLow true closedContact 0 0) (held-waiting closedContact 0 0 refl refl)) (held-waiting closedContact 1 1 refl refl)
+    (all-same (InForce Raise 25) 24 (heldLow true closedContact 0 0) refl) refl .1 refl
+
+pub held-again : Kept heldOpening heldList → Begins Raise (heldLow true resetContact 1 1)
+held-again k =
+    k .exactly Raise 25 heldFirst (replicate 24 (heldLow true resetContact 0 0)) (heldLow true resetContact 1 1) [] refl long-not
+    (all-same (Waiting Raise) 24 (heldLow true resetContact 0 0) (held-waiting resetContact 0 0 refl refl)) (held-waiting resetContact 1 1 refl refl)
+    (all-same (InForce Raise 25) 24 (heldLow true resetContact 0 0) refl) refl .1 refl
+
+pub held-under-t3 : Kept heldOpening heldHighList → Begins Lower (heldHigh 1 1)
+held-under-t3 k =
+    k .exactly Lower 21 [] (replicate 20 (heldHigh 0 0)) (heldHigh 1 1) [] refl refl (all-same (Waiting Lower) 20 (heldHigh 0 0) (held-high-waiting 0 0))
+    (held-high-waiting 1 1) (all-same (InForce Lower 21) 20 (heldHigh 0 0) refl) refl .1 refl
+
 -- ---- a list that is refused from end to end
 
 pub refused : Kept outsideOpening outsideList → All (λ t. t .refusal ≡ 4) outsideList
@@ -131,6 +177,6 @@ refused k = k .refused
 
 -- ---- the longest of T1, T2 and T3, whichever it is
 
-pub longest-is : (longest (sheetOf 0 90000 23 22 21 20 20 0) ≡ 23) × (longest (sheetOf 0 90000 21 23 22 20 20 0) ≡ 23)
-    × (longest (sheetOf 0 90000 22 21 23 20 20 0) ≡ 23)
+pub longest-is : (longest (sheetOf 0 0 90000 23 22 21 20 20 0) ≡ 23) × (longest (sheetOf 0 0 90000 21 23 22 20 20 0) ≡ 23)
+    × (longest (sheetOf 0 0 90000 22 21 23 20 20 0) ≡ 23)
 longest-is = (refl, refl, refl)

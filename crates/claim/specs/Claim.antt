@@ -1,4 +1,4 @@
--- Demand 3 (01, 'The words of demand 3'): what holds of every list of ticks, however long. It is stated over what can be seen of a tick,
+-- Demand 3 (01, 'The words of demand 3'; 02, ticket 2): what holds of every list of ticks, however long. It is stated over what can be seen of a tick,
 -- so it is one claim for a list of records and for a list of a host's images.
 -- Assumes nothing.
 use Prim.Native.Nat.{ℕ, _+_, _≤_, _<_, max}
@@ -9,7 +9,7 @@ use mathlib.Core.Logic.{_⊎_, _↔_}
 use lib.Dec.{eqb}
 use lib.ListN.{length, getD}
 use Rattle.common.specs.Choice.{choose}
-use Rattle.slots.specs.Slots.{slot, inService, t1, t2, t3, t4, t5, t6}
+use Rattle.slots.specs.Slots.{slot, inService, t1, t2, t3, t4, t5, t6, continuous}
 use Rattle.ways.specs.declared.Direction.{Direction}
 use Rattle.ways.specs.declared.Direction.the-variants.{Raise, Lower}
 use Rattle.input.specs.Brought.{bitOf}
@@ -112,11 +112,12 @@ pub record Lasting (d : Direction) (t : Tick) : Type 0 where
   pub noLong : output 21 t ≡ 0
   pub noFast : output 22 t ≡ 0
 
--- *waiting tick* to a side: with "the drive at rest as it starts, bit 1 clear"
+-- *waiting tick* to a side: with "the drive at rest as it starts, bit 1 clear"; 02, ticket 2: "a waiting tick asking for no open contact
+-- where slot 63 is 1"
 pub record Waiting (d : Direction) (t : Tick) : Type 0 where
   pub lasting : Lasting d t
   pub rest : t .rest ≡ true
-  pub contact : closed t ≡ false
+  pub contact : (slot (t .settings) continuous ≡ 1) ⊎ (closed t ≡ false)
 
 -- *began at zero*, after the ticks `pre` of a list: "the tick before the row is no waiting tick to that side, or the row opens the list on
 -- a record .. that holds no wait to that side"
@@ -169,8 +170,10 @@ pub record Kept (o : Opening) (l : List Tick) : Type 0 where
       BeganAtZero d o pre → All (Waiting d) front → Waiting d t → All (InForce d n) front → InForce d n t →
       Begins d t ↔ (length front + 1 ≡ n)
   -- "whenever the drive then closes its contact .., the next command, all else lasting, begins at most T5 + T4 + that longest delay ticks
-  -- after the first". What lasts, lasts "up to the next command or the bound, whichever comes first".
+  -- after the first". What lasts, lasts "up to the next command or the bound, whichever comes first". 02, ticket 2: "the bound between
+  -- commands keeps to drives with the contact".
   pub again :
       (d : Direction) (pre : List Tick) (first : Tick) (row post : List Tick) → l ≡ pre ++ (first ∷ (row ++ post)) →
+      slot (o .settings) continuous ≡ 0 →
       Begins d first → length row ≡ slot (o .settings) t5 + slot (o .settings) t4 + longest (o .settings) →
       (All (λ t. Command t → ⊥) row → All (Lasting d) row × Serves (o .settings) row) → Some Command row

@@ -6,9 +6,10 @@ use Rattle.measure.specs.declared.Reading.the-variants.{Good, Invalid}
 use Rattle.input.specs.declared.Input.{Input}
 
 -- a sheet that is taken, in service: U_supp is 100 V, dU 2 V, U_set5 110 V; no compensation, no tap, no wear count. Of the organs, U_AB
--- under U_set2 is on if `under` is 1; the voltage organs then block manual, and not automatic.
-abbrev pub sheetOf : (under uSet2 t1 t2 t3 t4 t5 t6 : ℕ) → List ℕ
-sheetOf under uSet2 t1 t2 t3 t4 t5 t6 =
+-- under U_set2 is on if `under` is 1; the voltage organs then block manual, and not automatic. The drive has no switching contact if
+-- `kind` is 1.
+abbrev pub sheetOf : (kind under uSet2 t1 t2 t3 t4 t5 t6 : ℕ) → List ℕ
+sheetOf kind under uSet2 t1 t2 t3 t4 t5 t6 =
     -- in service; 1 A; no load current needed; no compensation; its current; tap from nothing
     1 ∷ 0 ∷ 0 ∷ 0 ∷ 0 ∷ 0
     -- organs on; current, voltage organs; no end tap block, pulse, no wear count, organs block manual
@@ -19,16 +20,20 @@ sheetOf under uSet2 t1 t2 t3 t4 t5 t6 =
     ∷ 1000 ∷ 1000 ∷ 100 ∷ 120000 ∷ uSet2 ∷ 10000 ∷ 5000 ∷ 110000
     -- T1–T6, T7, T8, T9–T15
     ∷ t1 ∷ t2 ∷ t3 ∷ t4 ∷ t5 ∷ t6 ∷ 0 ∷ 20 ∷ 0 ∷ 0 ∷ 0 ∷ 0 ∷ 0 ∷ 0 ∷ 0
-    -- N_pos, N_R, N_L, N_start, N_max, sliding taps
-    ∷ 20 ∷ 40 ∷ 1 ∷ 0 ∷ 500000 ∷ 0 ∷ 0 ∷ 0 ∷ 0 ∷ 0 ∷ 0 ∷ 0 ∷ 0 ∷ 0 ∷ 0 ∷ []
+    -- N_pos, N_R, N_L, N_start, N_max, sliding taps, the kind of drive
+    ∷ 20 ∷ 40 ∷ 1 ∷ 0 ∷ 500000 ∷ 0 ∷ 0 ∷ 0 ∷ 0 ∷ 0 ∷ 0 ∷ 0 ∷ 0 ∷ 0 ∷ 0 ∷ kind ∷ []
 
 -- T1 to T5 are 20 ticks, T6 is 0
 abbrev pub plainSheet : List ℕ
-plainSheet = sheetOf 0 90000 20 20 20 20 20 0
+plainSheet = sheetOf 0 0 90000 20 20 20 20 20 0
 
 -- T1 to T6 are all different, T2 is the longest of the delays; at 98 V an organ trips and blocks manual
 abbrev pub variedSheet : List ℕ
-variedSheet = sheetOf 1 99000 23 25 21 24 22 3
+variedSheet = sheetOf 0 1 99000 23 25 21 24 22 3
+
+-- the same for a drive without a switching contact, with T1 the longest of the delays
+abbrev pub heldSheet : List ℕ
+heldSheet = sheetOf 1 1 99000 25 23 21 24 22 3
 
 -- a tick with a Good U_AB by its bits, all else Invalid; `contacts` as given
 abbrev pub brought : ℕ → ℕ → Input

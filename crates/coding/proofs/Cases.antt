@@ -20,7 +20,7 @@ use Rattle.command.specs.declared.Wait.{Wait}
 use Rattle.command.specs.declared.Wait.the-variants.{Idle, For}
 use Rattle.coding.specs.declared.DriveImage.{DriveImage}
 use Rattle.coding.specs.declared.WaitImage.{WaitImage}
-use Rattle.coding.specs.Numbers.{bitOf, isBit, directionNumber, directionOf, wayNumber, isWay, wayOf, faultNumber, isFault, faultOf, moveNumber, driveImage, driveOf, isDrive, waitImage, waitOf, isWait}
+use Rattle.coding.specs.Numbers.{bitOf, isBit, directionNumber, directionOf, wayNumber, isWay, wayOf, faultNumber, isFault, faultOf, askedNumber, moveNumber, driveImage, driveOf, isDrive, waitImage, waitOf, isWait}
 
 -- a flag
 pub bit-back : (b : Bool) → eqb (bitOf b) 1 ≡ b
@@ -96,15 +96,18 @@ fault-same (suc (suc (suc (suc (suc n))))) p = absurd (omega (arith, leb-true (s
 pub drive-back : (d : Drive) → driveOf (driveImage d) ≡ d
 unfolding driveOf driveImage choose
 drive-back Resting = refl
-drive-back (Asked d n) = rw direction-back
+drive-back (Asked d n true) = rw direction-back
+drive-back (Asked d n false) = rw direction-back
 drive-back (Moving d n true) = rw direction-back
 drive-back (Moving d n false) = rw direction-back
 
 pub drive-is : (d : Drive) → isDrive (driveImage d) ≡ true
 unfolding driveImage
 drive-is Resting = refl
-drive-is (Asked Raise n) = refl
-drive-is (Asked Lower n) = refl
+drive-is (Asked Raise n true) = refl
+drive-is (Asked Lower n true) = refl
+drive-is (Asked Raise n false) = refl
+drive-is (Asked Lower n false) = refl
 drive-is (Moving Raise n true) = refl
 drive-is (Moving Lower n true) = refl
 drive-is (Moving Raise n false) = refl
@@ -119,10 +122,10 @@ rest-zeros d n p =
     let q : (eqb d 0 && eqb n 0) ≡ true = and-right (leb d 1) (eqb d 0 && eqb n 0) p in
     (eqb-true d 0 (and-left (eqb d 0) (eqb n 0) q), eqb-true n 0 (and-right (eqb d 0) (eqb n 0) q))
 
-drive-kinds : (k d n : ℕ) → isDrive (driveAt k d n) ≡ true → (k ≤ 3) × (leb d 1 ≡ true)
+drive-kinds : (k d n : ℕ) → isDrive (driveAt k d n) ≡ true → (k ≤ 4) × (leb d 1 ≡ true)
 drive-kinds k d n p =
-    let q : (leb k 3 && leb d 1) ≡ true = and-left (leb k 3 && leb d 1) (not (eqb k 0) || (eqb d 0 && eqb n 0)) p in
-    (leb-true k 3 (and-left (leb k 3) (leb d 1) q), and-right (leb k 3) (leb d 1) q)
+    let q : (leb k 4 && leb d 1) ≡ true = and-left (leb k 4 && leb d 1) (not (eqb k 0) || (eqb d 0 && eqb n 0)) p in
+    (leb-true k 4 (and-left (leb k 4) (leb d 1) q), and-right (leb k 4) (leb d 1) q)
 
 drive-at : (k d n : ℕ) → isDrive (driveAt k d n) ≡ true → driveImage (driveOf (driveAt k d n)) ≡ driveAt k d n
 unfolding driveOf driveImage choose
@@ -130,7 +133,8 @@ drive-at zero d n p = rw (rest-zeros d n p .0, rest-zeros d n p .1)
 drive-at (suc zero) d n p = rw (direction-same d (drive-kinds 1 d n p .1))
 drive-at (suc (suc zero)) d n p = rw (direction-same d (drive-kinds 2 d n p .1))
 drive-at (suc (suc (suc zero))) d n p = rw (direction-same d (drive-kinds 3 d n p .1))
-drive-at (suc (suc (suc (suc k)))) d n p = absurd (omega (arith, drive-kinds (suc (suc (suc (suc k)))) d n p .0))
+drive-at (suc (suc (suc (suc zero)))) d n p = rw (direction-same d (drive-kinds 4 d n p .1))
+drive-at (suc (suc (suc (suc (suc k))))) d n p = absurd (omega (arith, drive-kinds (suc (suc (suc (suc (suc k))))) d n p .0))
 
 pub drive-same : (m : DriveImage) → isDrive m ≡ true → driveImage (driveOf m) ≡ m
 drive-same m p = drive-at (m .kind) (m .direction) (m .ticks) p
@@ -167,9 +171,10 @@ pub rests-made : (s : Drive) → s ≡ Resting → driveAt 0 0 0 ≡ driveImage 
 unfolding driveImage
 rests-made s p = rw p
 
-pub asks-made : (s : Drive) (d : Direction) (n age : ℕ) → s ≡ Asked d age → n ≡ directionNumber d → driveAt 1 n age ≡ driveImage s
+pub asks-made : (s : Drive) (d : Direction) (a : Bool) (k n age : ℕ) → s ≡ Asked d age a → n ≡ directionNumber d → k ≡ askedNumber a
+    → driveAt k n age ≡ driveImage s
 unfolding driveImage
-asks-made s d n age p q = rw (p, q)
+asks-made s d a k n age p q r = rw (p, q, r)
 
 pub moves-made : (s : Drive) (d : Direction) (c : Bool) (k n length : ℕ) → s ≡ Moving d length c → n ≡ directionNumber d → k ≡ moveNumber c
     → driveAt k n length ≡ driveImage s
@@ -177,13 +182,13 @@ unfolding driveImage
 moves-made s d c k n length p q r = rw (p, q, r)
 
 module _ (m : DriveImage) (d : Direction) (e : d ≡ directionOf (m .direction)) (moves : m .kind ≡ 0 → ⊥) where
-  pub asked-made : m .kind ≡ 1 → Asked d (m .ticks) ≡ driveOf m
+  pub asked-made : (eqb (m .kind) 1 || eqb (m .kind) 4) ≡ true → Asked d (m .ticks) (eqb (m .kind) 1) ≡ driveOf m
   unfolding driveOf choose
-  asked-made p = rw (p, e)
+  asked-made p = rw (ne-eqb (m .kind) 0 moves, p, e)
 
-  pub moving-made : (m .kind ≡ 1 → ⊥) → Moving d (m .ticks) (eqb (m .kind) 2) ≡ driveOf m
+  pub moving-made : (eqb (m .kind) 1 || eqb (m .kind) 4) ≡ false → Moving d (m .ticks) (eqb (m .kind) 2) ≡ driveOf m
   unfolding driveOf choose
-  moving-made p = rw (ne-eqb (m .kind) 0 moves, ne-eqb (m .kind) 1 p, e)
+  moving-made p = rw (ne-eqb (m .kind) 0 moves, p, e)
 
 pub idle-made : (w : Wait) → w ≡ Idle → waitAt 0 0 ≡ waitImage w
 unfolding waitImage

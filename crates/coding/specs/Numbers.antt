@@ -59,6 +59,11 @@ faultOf n =
 
 -- ---- the drive
 
+-- asked by an automatic command, or by a manual one
+abbrev pub askedNumber : Bool → ℕ
+askedNumber true = 1
+askedNumber false = 4
+
 -- a commanded move, or an own one
 abbrev pub moveNumber : Bool → ℕ
 moveNumber true = 2
@@ -66,19 +71,19 @@ moveNumber false = 3
 
 unfoldable pub driveImage : Drive → DriveImage
 driveImage Resting = record { kind = 0; direction = 0; ticks = 0 }
-driveImage (Asked d age) = record { kind = 1; direction = directionNumber d; ticks = age }
+driveImage (Asked d age automatic) = record { kind = askedNumber automatic; direction = directionNumber d; ticks = age }
 driveImage (Moving d length commanded) = record { kind = moveNumber commanded; direction = directionNumber d; ticks = length }
 
 unfoldable pub driveOf : DriveImage → Drive
 driveOf m =
     choose (eqb (m .kind) 0) Resting
-    (choose (eqb (m .kind) 1) (Asked (directionOf (m .direction)) (m .ticks))
+    (choose (eqb (m .kind) 1 || eqb (m .kind) 4) (Asked (directionOf (m .direction)) (m .ticks) (eqb (m .kind) 1))
     (Moving (directionOf (m .direction)) (m .ticks) (eqb (m .kind) 2)))
 
 -- the numbers are some drive's: zeros at rest
 abbrev pub isDrive : DriveImage → Bool
 isDrive m =
-    leb (m .kind) 3 && leb (m .direction) 1 && (not (eqb (m .kind) 0) || (eqb (m .direction) 0 && eqb (m .ticks) 0))
+    leb (m .kind) 4 && leb (m .direction) 1 && (not (eqb (m .kind) 0) || (eqb (m .direction) 0 && eqb (m .ticks) 0))
 
 -- ---- the wait
 

@@ -7,6 +7,7 @@ ghost use Rattle.coding.specs.Numbers.{
   wayOf,
   faultNumber,
   faultOf,
+  askedNumber,
   moveNumber,
   driveImage,
   driveOf,
@@ -21,8 +22,8 @@ use fault::Fault;
 use ways::Direction;
 use ways::Way;
 
-// `kind`: 0 at rest, 1 asked, 2 a commanded move, 3 an own move. `direction`: 0 raise, 1 lower. `ticks`: the asked command's
-// age or the move's length. At rest all three are 0.
+// `kind`: 0 at rest, 1 asked by an automatic command, 2 a commanded move, 3 an own move, 4 asked by a manual command.
+// `direction`: 0 raise, 1 lower. `ticks`: the asked command's age or the move's length. At rest all three are 0.
 #[repr(C)]
 pub struct DriveImage {
     pub kind: u32,
@@ -108,6 +109,12 @@ pub fn fault_of(n: u32) -> Fault
     if n == 3 { Fault::Long } else { Fault::Fast }
 }
 
+fn asked_number(automatic: bool) -> u32
+    ensures { λ n. ⌜ n ≡ askedNumber automatic ⌝ }
+{
+    if automatic { 1 } else { 4 }
+}
+
 fn move_number(commanded: bool) -> u32
     ensures { λ n. ⌜ n ≡ moveNumber commanded ⌝ }
 {
@@ -123,10 +130,15 @@ pub fn drive_image(d: Drive) -> DriveImage
             direction: 0,
             ticks: 0,
         },
-        Drive::Asked { direction, age } => {
+        Drive::Asked {
+            direction,
+            age,
+            automatic,
+        } => {
             let n = direction_number(direction);
+            let kind = asked_number(automatic);
             DriveImage {
-                kind: 1,
+                kind: kind,
                 direction: n,
                 ticks: age,
             }
@@ -154,10 +166,11 @@ pub fn drive_of(m: DriveImage) -> Drive
     if m.kind == 0 {
         return Drive::Resting;
     }
-    if m.kind == 1 {
+    if (m.kind == 1) | (m.kind == 4) {
         Drive::Asked {
             direction: direction,
             age: m.ticks,
+            automatic: m.kind == 1,
         }
     } else {
         Drive::Moving {
@@ -173,7 +186,7 @@ pub fn is_drive(m: DriveImage) -> bool
     ensures { λ b. ⌜ b ≡ isDrive m ⌝ }
 {
     let rests = (m.direction == 0) & (m.ticks == 0);
-    (m.kind <= 3) & (m.direction <= 1) & (!(m.kind == 0) | rests)
+    (m.kind <= 4) & (m.direction <= 1) & (!(m.kind == 0) | rests)
 }
 
 pub fn wait_image(w: Wait) -> WaitImage

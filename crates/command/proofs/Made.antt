@@ -5,16 +5,17 @@ use mathlib.Core.Bool.{Bool, true, false, not, _&&_, _||_}
 use mathlib.Core.List.{List}
 use Prim.Native.Nat.{ℕ}
 use Rattle.common.proofs.Cases.{yes, no, cases}
-use Rattle.slots.specs.Slots.{slot, t1, t2, t3}
+use Rattle.slots.specs.Slots.{slot, t1, t2, t3, isContinuous}
 use Rattle.ways.specs.declared.Direction.{Direction}
 use Rattle.ways.specs.declared.Way.{Way}
 use Rattle.ways.specs.declared.Way.the-variants.{Neither, To}
 use Rattle.ways.specs.Ways.{raises, lowers, isTo, otherOf, newerOf}
+use Rattle.blocks.specs.Blocked.{opposedOf}
 use Rattle.command.specs.declared.Wait.{Wait}
 use Rattle.command.specs.declared.Wait.the-variants.{Idle, For}
 use Rattle.command.specs.declared.Situation.{Situation}
 use Rattle.command.specs.declared.Decided.{Decided}
-use Rattle.command.specs.Automatic.{idleOf, ticksOf, waitedOf, opposedOf, delayOf, waitOnOf, towardOf, sidedOf, keptOf, repeatOf}
+use Rattle.command.specs.Automatic.{idleOf, ticksOf, waitedOf, delayOf, waitOnOf, towardOf, sidedOf, keptOf, repeatOf}
 use Rattle.command.specs.Manual.{pressOf, manualOf}
 
 -- the wait to a side
@@ -33,11 +34,11 @@ module _ (s : List ℕ) (d : Direction) (far : Bool) (repeat : Way) {r : ℕ} {l
   unfolding delayOf
   delay-far t e = rw (← l) (yes _ _ _ _ t e)
 
-  pub delay-repeat : {same : Bool} → (low && far) ≡ false → same ≡ isTo d repeat → same ≡ true → r ≡ slot s t2 → r ≡ delayOf s d far repeat
+  pub delay-repeat : {same : Bool} → (low && far) ≡ false → same ≡ isTo d repeat → (same && not (isContinuous s)) ≡ true → r ≡ slot s t2 → r ≡ delayOf s d far repeat
   unfolding delayOf
   delay-repeat f m t e = rw (← l, ← m) (no _ _ _ _ f (yes _ _ _ _ t e))
 
-  pub delay-first : {same : Bool} → (low && far) ≡ false → same ≡ isTo d repeat → same ≡ false → r ≡ slot s t1 → r ≡ delayOf s d far repeat
+  pub delay-first : {same : Bool} → (low && far) ≡ false → same ≡ isTo d repeat → (same && not (isContinuous s)) ≡ false → r ≡ slot s t1 → r ≡ delayOf s d far repeat
   unfolding delayOf
   delay-first f m t e = rw (← l, ← m) (no _ _ _ _ f (no _ _ _ _ t e))
 

@@ -15,10 +15,11 @@ use Rattle.ways.specs.declared.Direction.the-variants.{Raise, Lower}
 use Rattle.ways.specs.declared.Way.{Way}
 use Rattle.ways.specs.declared.Way.the-variants.{Neither, To}
 use Rattle.ways.specs.Ways.{raises, lowers}
+use Rattle.blocks.specs.Blocked.{opposedOf}
 use Rattle.command.specs.declared.Wait.the-variants.{Idle, For}
 use Rattle.command.specs.declared.Situation.{Situation}
 use Rattle.command.specs.declared.Decided.{Decided}
-use Rattle.command.specs.Automatic.{idleOf, commandedOf, waitedOf, opposedOf, delayOf, waitOnOf, towardOf, sidedOf}
+use Rattle.command.specs.Automatic.{idleOf, commandedOf, waitedOf, delayOf, waitOnOf, towardOf, sidedOf}
 use Rattle.command.specs.Manual.{pressOf, manualOf}
 use Rattle.command.specs.Deciding.{decidedOf}
 

@@ -1,10 +1,10 @@
 // Rule 9 in automatic mode.
 ghost use mathlib.Core.Path.{_≡_};
-ghost use Rattle.command.specs.Automatic.{commandedOf, ticksOf, waitedOf, opposedOf, delayOf, waitOnOf, towardOf, automaticOf, keptOf, repeatOf};
+ghost use Rattle.command.specs.Automatic.{commandedOf, ticksOf, waitedOf, delayOf, waitOnOf, towardOf, automaticOf, keptOf, repeatOf};
 use crate::Decided;
 use crate::Situation;
 use crate::Wait;
-use blocks::Blocks;
+use slots::CONTINUOUS;
 use slots::SLOTS;
 use slots::T1;
 use slots::T2;
@@ -28,23 +28,16 @@ fn waited(w: Wait, d: Direction) -> u32
     }
 }
 
-fn opposes(b: Blocks, d: Direction) -> bool
-    ensures { λ r. ⌜ r ≡ opposedOf b d ⌝ }
-{
-    match d {
-        Direction::Raise => b.raise,
-        Direction::Lower => b.lower,
-    }
-}
-
-// The delay in force for a command of this direction.
+// The delay in force for a command of this direction; T2 only for a drive with a switching contact.
 fn delay_in_force(s: &[u32; SLOTS], d: Direction, far: bool, repeat: Way) -> u32
     ensures { λ r. ⌜ r ≡ delayOf (now (s .entry)) d far repeat ⌝ }
 {
     if ways::to_lower(Way::To(d)) & far {
         return s[T3];
     }
-    if ways::is_to(repeat, d) { s[T2] } else { s[T1] }
+    let repeats = ways::is_to(repeat, d);
+    let continuous = s[CONTINUOUS] == 1;
+    if repeats & !continuous { s[T2] } else { s[T1] }
 }
 
 // One tick more of the wait: a command once it has reached the delay.
@@ -81,7 +74,7 @@ fn toward(s: &[u32; SLOTS], x: Situation, d: Direction) -> Decided
     ensures { λ r. ⌜ r ≡ towardOf (now (s .entry)) x d ⌝ }
 {
     let b = x.blocks;
-    let opposed = opposes(b, d);
+    let opposed = blocks::opposes(b, d);
     if b.automatic | opposed {
         return crate::idle();
     }

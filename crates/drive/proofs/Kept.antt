@@ -55,8 +55,8 @@ module _ (x : Contact) (four : 1 ≤ x .t4) where
   unfolding supervisedOf restOf askedOf movingOf withinOf
   supervised-good Resting =
       chosen Good _ _ _ (λ p. chosen Good _ _ _ (λ q. own-good (x .last)) (λ q. rest-good _)) (λ p. resting-good)
-  supervised-good (Asked d n) =
-      chosen Good _ _ _ (λ p. move-good d 1 true (omega arith) four) (λ p. chosen Good _ _ _ (λ q. unmoved-good (Asked d (n + 1)) q) (λ q. rest-good _))
+  supervised-good (Asked d n a) =
+      chosen Good _ _ _ (λ p. move-good d 1 true (omega arith) four) (λ p. chosen Good _ _ _ (λ q. unmoved-good (Asked d (n + 1) a) q) (λ q. rest-good _))
   supervised-good (Moving d n m) =
       chosen Good _ _ _
       (λ p. chosen Good _ _ _ (λ q. move-good d (n + 1) m (omega arith) (leb-true (n + 1) (x .t4) q)) (λ q. rest-good _))
@@ -70,5 +70,5 @@ module _ (x : Contact) (four : 1 ≤ x .t4) where
 pub faulty-stays : (x : Contact) (s : Drive) → x .faulty ≡ true → restsOf s ≡ true → unmovedOf Resting ≡ followOf s x
 unfolding followOf supervisedOf restOf
 faulty-stays x Resting p q = either _ _ _ (x .local) refl (no _ _ _ _ (rw p (and-false (x .closed))) refl)
-faulty-stays x (Asked d n) p q = let z : _≡_ {A = Bool} false true = q in cc
+faulty-stays x (Asked d n a) p q = let z : _≡_ {A = Bool} false true = q in cc
 faulty-stays x (Moving d n m) p q = let z : _≡_ {A = Bool} false true = q in cc

@@ -20,7 +20,7 @@ use Rattle.drive.specs.declared.follow.Followed.{Followed}
 
 pub rests-is : (d : Drive) → restsOf d ≡ true → d ≡ Resting
 rests-is Resting e = refl
-rests-is (Asked d n) e = let z : _≡_ {A = Bool} false true = e in cc
+rests-is (Asked d n a) e = let z : _≡_ {A = Bool} false true = e in cc
 rests-is (Moving d n m) e = let z : _≡_ {A = Bool} false true = e in cc
 
 module _ (k : Contact) where
@@ -80,17 +80,17 @@ module _ (k : Contact) where
       go false c = refl
 
   -- an asked command
-  module _ (e : Direction) (a : ℕ) (l : k .local ≡ false) where
+  module _ (e : Direction) (a : ℕ) (b : Bool) (l : k .local ≡ false) where
     abbrev AskedStill : Followed → Type 0
-    AskedStill o = isFault (o .fault) ≡ false → (n : ℕ) × (o .drive ≡ Asked e n)
+    AskedStill o = isFault (o .fault) ≡ false → (n : ℕ) × (o .drive ≡ Asked e n b)
 
-    pub asked-open : k .closed ≡ false → isFault (followOf (Asked e a) k .fault) ≡ false → (n : ℕ) × (followOf (Asked e a) k .drive ≡ Asked e n)
+    pub asked-open : k .closed ≡ false → isFault (followOf (Asked e a b) k .fault) ≡ false → (n : ℕ) × (followOf (Asked e a b) k .drive ≡ Asked e n b)
     unfolding followOf supervisedOf askedOf
     asked-open c =
         subst AskedStill (no _ _ _ _ l (no _ _ _ _ c refl))
-        (chosen AskedStill (ltb (a + 1) (k .t5)) (unmovedOf (Asked e (a + 1))) (faultyOf NotStarted) (λ p f. (a + 1, refl)) (λ p f. absurd (true≢false f)))
+        (chosen AskedStill (ltb (a + 1) (k .t5)) (unmovedOf (Asked e (a + 1) b)) (faultyOf NotStarted) (λ p f. (a + 1, refl)) (λ p f. absurd (true≢false f)))
 
-    pub asked-closed : k .closed ≡ true → followOf (Asked e a) k .drive ≡ Moving e 1 true
+    pub asked-closed : k .closed ≡ true → followOf (Asked e a b) k .drive ≡ Moving e 1 true
     unfolding followOf supervisedOf askedOf
     asked-closed c = ap (λ (o : Followed). o .drive) (sym (no _ _ _ _ l (yes _ _ _ _ c refl)))
 

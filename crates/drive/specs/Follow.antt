@@ -1,4 +1,4 @@
--- Rule 7 of 01: the drive over one tick. Definitions only.
+-- Rule 7 of 01: a drive with a switching contact over one tick. Definitions only.
 use Prim.Native.Nat.{ℕ, _+_}
 use mathlib.Core.Bool.{Bool, true, false, not, _&&_}
 use lib.Dec.{ltb, leb}
@@ -15,15 +15,15 @@ use Rattle.drive.specs.declared.follow.Followed.{Followed}
 
 -- no fault, and no move ended
 abbrev pub unmovedOf : Drive → Followed
-unmovedOf d = record { drive = d; fault = NoFault; ended = Neither }
+unmovedOf d = record { drive = d; fault = NoFault; ended = Neither; operation = false }
 
 -- "a fault brings rest"
 abbrev pub faultyOf : Fault → Followed
-faultyOf f = record { drive = Resting; fault = f; ended = Neither }
+faultyOf f = record { drive = Resting; fault = f; ended = Neither; operation = false }
 
--- a move has ended, fast or not
+-- "an ended move, fast or not, .. adds 1 to operations"
 abbrev pub endedOf : Direction → Fault → Followed
-endedOf d f = record { drive = Resting; fault = f; ended = To d }
+endedOf d f = record { drive = Resting; fault = f; ended = To d; operation = true }
 
 -- at a sliding tap: "an own move that way starts, length 1", if there is a last direction
 unfoldable pub ownOf : Way → Followed
@@ -35,10 +35,10 @@ unfoldable pub restOf : Contact → Followed
 restOf x = choose (x .closed && not (x .faulty)) (choose (x .sliding) (ownOf (x .last)) (faultyOf RunAway)) (unmovedOf Resting)
 
 -- "contact closed starts the move, length 1; else open on the T5th tick after the command's first is fault 'not started'"
-unfoldable pub askedOf : Direction → ℕ → Contact → Followed
-askedOf d age x =
+unfoldable pub askedOf : Direction → ℕ → Bool → Contact → Followed
+askedOf d age automatic x =
     choose (x .closed) (unmovedOf (Moving d 1 true))
-    (choose (ltb (age + 1) (x .t5)) (unmovedOf (Asked d (age + 1))) (faultyOf NotStarted))
+    (choose (ltb (age + 1) (x .t5)) (unmovedOf (Asked d (age + 1) automatic)) (faultyOf NotStarted))
 
 -- "closed adds 1, above T4 is 'long'; open ends the move, and 'fast' if commanded and shorter than T6"
 unfoldable pub movingOf : Direction → ℕ → Bool → Contact → Followed
@@ -50,7 +50,7 @@ movingOf d n commanded x =
 -- by what the drive was as the tick started
 unfoldable pub supervisedOf : Drive → Contact → Followed
 supervisedOf Resting x = restOf x
-supervisedOf (Asked d age) x = askedOf d age x
+supervisedOf (Asked d age automatic) x = askedOf d age automatic x
 supervisedOf (Moving d n commanded) x = movingOf d n commanded x
 
 -- "local drive: at rest, wait 0, no supervision"
@@ -60,11 +60,11 @@ followOf d x = choose (x .local) (unmovedOf Resting) (supervisedOf d x)
 -- at rest: no asked command and no move
 abbrev pub restsOf : Drive → Bool
 restsOf Resting = true
-restsOf (Asked d age) = false
+restsOf (Asked d age automatic) = false
 restsOf (Moving d n commanded) = false
 
 -- limits of a record: "an asked command's age (ticks after its first) below T5; a move's length 1–T4"
 unfoldable pub withinOf : Drive → ℕ → ℕ → Bool
 withinOf Resting t4 t5 = true
-withinOf (Asked d age) t4 t5 = ltb age t5
+withinOf (Asked d age automatic) t4 t5 = ltb age t5
 withinOf (Moving d n commanded) t4 t5 = leb 1 n && leb n t4

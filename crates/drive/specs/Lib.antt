@@ -1,2 +1,3 @@
 pub mod Follow
+pub mod Hold
 pub mod Shown

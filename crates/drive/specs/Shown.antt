@@ -11,5 +11,5 @@ use Rattle.drive.specs.declared.Drive.the-variants.{Resting, Asked, Movi
 -- "a command is on while asked, and in its move while length ≤ T7": an own move has no command
 unfoldable pub onOf : Drive → ℕ → Way
 onOf Resting t7 = Neither
-onOf (Asked d age) t7 = To d
+onOf (Asked d age automatic) t7 = To d
 onOf (Moving d n commanded) t7 = choose (commanded && leb n t7) (To d) Neither

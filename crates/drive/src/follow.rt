@@ -1,4 +1,4 @@
-// Rule 7: the drive over one tick, by its switching contact.
+// Rule 7: a drive with a switching contact over one tick.
 ghost use mathlib.Core.Path.{_≡_};
 ghost use Rattle.drive.specs.Follow.{unmovedOf, faultyOf, endedOf, ownOf, restOf, askedOf, movingOf, followOf, restsOf, withinOf};
 use crate::Drive;
@@ -18,30 +18,33 @@ pub struct Contact {
     pub t6: u32,
 }
 
-// The drive after the tick, the fault that arose and the direction of the move that ended on it.
+// The drive after the tick, the fault that arose, the direction of the move that ended on it, and whether an operation counts.
 pub struct Followed {
     pub drive: Drive,
     pub fault: Fault,
     pub ended: Way,
+    pub operation: bool,
 }
 
-fn unmoved(d: Drive) -> Followed
+pub(crate) fn unmoved(d: Drive) -> Followed
     ensures { λ r. ⌜ r ≡ unmovedOf d ⌝ }
 {
     Followed {
         drive: d,
         fault: Fault::NoFault,
         ended: Way::Neither,
+        operation: false,
     }
 }
 
-fn faulty(f: Fault) -> Followed
+pub(crate) fn faulty(f: Fault) -> Followed
     ensures { λ r. ⌜ r ≡ faultyOf f ⌝ }
 {
     Followed {
         drive: Drive::Resting,
         fault: f,
         ended: Way::Neither,
+        operation: false,
     }
 }
 
@@ -52,6 +55,7 @@ fn ended(d: Direction, f: Fault) -> Followed
         drive: Drive::Resting,
         fault: f,
         ended: Way::To(d),
+        operation: true,
     }
 }
 
@@ -84,8 +88,8 @@ fn from_rest(x: Contact) -> Followed
     }
 }
 
-fn from_asked(d: Direction, age: u32, x: Contact) -> Followed
-    ensures { λ r. ⌜ r ≡ askedOf d age x ⌝ }
+fn from_asked(d: Direction, age: u32, automatic: bool, x: Contact) -> Followed
+    ensures { λ r. ⌜ r ≡ askedOf d age automatic x ⌝ }
 {
     if x.closed {
         return unmoved(Drive::Moving {
@@ -100,6 +104,7 @@ fn from_asked(d: Direction, age: u32, x: Contact) -> Followed
             unmoved(Drive::Asked {
                 direction: d,
                 age: next,
+                automatic: automatic,
             })
         } else {
             faulty(Fault::NotStarted)
@@ -140,7 +145,11 @@ pub fn follow(d: Drive, x: Contact) -> Followed
     }
     match d {
         Drive::Resting => from_rest(x),
-        Drive::Asked { direction, age } => from_asked(direction, age, x),
+        Drive::Asked {
+            direction,
+            age,
+            automatic,
+        } => from_asked(direction, age, automatic, x),
         Drive::Moving {
             direction,
             length,
@@ -158,6 +167,7 @@ pub fn rests(d: Drive) -> bool
         Drive::Asked {
             direction: _,
             age: _,
+            automatic: _,
         } => false,
         Drive::Moving {
             direction: _,
@@ -167,13 +177,17 @@ pub fn rests(d: Drive) -> bool
     }
 }
 
-// The limits of a record for its drive.
+// The limits of a record for a drive with a switching contact.
 pub fn within(d: Drive, t4: u32, t5: u32) -> bool
     ensures { λ r. ⌜ r ≡ withinOf d t4 t5 ⌝ }
 {
     match d {
         Drive::Resting => true,
-        Drive::Asked { direction: _, age } => age < t5,
+        Drive::Asked {
+            direction: _,
+            age,
+            automatic: _,
+        } => age < t5,
         Drive::Moving {
             direction: _,
             length,

@@ -1,16 +1,20 @@
-// The motor drive of the tap changer: what is known of it between ticks, and how a tick follows it.
+// The motor drive of the tap changer: what is known of it between ticks, and how a tick follows it: `follow` by its switching
+// contact, `hold` without one.
 pub mod follow;
+pub mod hold;
 pub mod shown;
 
 use ways::Direction;
 
-// A command is asked until the switching contact closes, and moving until it opens again. `age` counts the ticks after the
-// command's first, `length` the ticks that the contact has been closed. An own move is one that no command began.
+// A command is asked until the switching contact closes, and moving until it opens again; without the contact it is asked, and
+// held, until it ends. `age` counts the ticks after the command's first, `automatic` is the mode in which it began, `length`
+// the ticks that the contact has been closed. An own move is one that no command began.
 pub enum Drive {
     Resting,
     Asked {
         direction: Direction,
         age: u32,
+        automatic: bool,
     },
     Moving {
         direction: Direction,

@@ -10,7 +10,11 @@ pub fn command_on(d: Drive, t7: u32) -> Way
 {
     match d {
         Drive::Resting => Way::Neither,
-        Drive::Asked { direction, age: _ } => Way::To(direction),
+        Drive::Asked {
+            direction,
+            age: _,
+            automatic: _,
+        } => Way::To(direction),
         Drive::Moving {
             direction,
             length,

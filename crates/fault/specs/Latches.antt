@@ -14,6 +14,14 @@ isFault NotStarted = true
 isFault Long = true
 isFault Fast = true
 
+-- limits of a record with slot 63 (02, ticket 2): "no fault but 'long'"
+abbrev pub longOrNone : Fault → Bool
+longOrNone NoFault = true
+longOrNone RunAway = false
+longOrNone NotStarted = false
+longOrNone Long = true
+longOrNone Fast = false
+
 -- "run-away or long"
 abbrev pub tripsSupply : Fault → Bool
 tripsSupply NoFault = false

@@ -1,6 +1,6 @@
 // The faults of a drive and their latch: reset, a new fault, its age, the trip of the drive's supply, and the output.
 ghost use mathlib.Core.Path.{_≡_};
-ghost use Rattle.fault.specs.Latches.{isFault, tripsSupply, resetOf, laterOf, ageOf, latchedOf, supplyOf, latchWithin, fieldOf};
+ghost use Rattle.fault.specs.Latches.{isFault, longOrNone, tripsSupply, resetOf, laterOf, ageOf, latchedOf, supplyOf, latchWithin, fieldOf};
 
 pub enum Fault {
     NoFault,
@@ -25,6 +25,19 @@ pub fn is_fault(f: Fault) -> bool
         Fault::NotStarted => true,
         Fault::Long => true,
         Fault::Fast => true,
+    }
+}
+
+// No fault, or 'long'.
+pub fn is_long_or_none(f: Fault) -> bool
+    ensures { λ r. ⌜ r ≡ longOrNone f ⌝ }
+{
+    match f {
+        Fault::NoFault => true,
+        Fault::RunAway => false,
+        Fault::NotStarted => false,
+        Fault::Long => true,
+        Fault::Fast => false,
     }
 }
 

@@ -1,2 +1,3 @@
+pub mod OfKind
 pub mod Waits
 pub mod Starts

@@ -11,16 +11,17 @@ use lib.Dec.{eqb}
 use Rattle.common.proofs.Cases.{yes, no}
 use Rattle.slots.specs.Slots.{slot, t8, nPos, nStart}
 use Rattle.sheet.specs.declared.Answer.{Answer}
-use Rattle.sheet.specs.declared.Answer.the-variants.{Taken, WrongLength, OutOfRange, TapOrder}
+use Rattle.sheet.specs.declared.Answer.the-variants.{Taken, WrongLength, OutOfRange, TapOrder, CountedTap}
 use Rattle.sheet.specs.declared.Sheet.{Sheet}
 use Rattle.sheet.specs.Settings.{Settings}
 use Rattle.sheet.specs.Sheet.{numberOf, isTaken, answerOf, sheetWith, sheetOf, passesOf, replyOf, returnedOf}
 use Rattle.sheet.proofs.Laws.{taken-pass, taps-range, nStart-most}
 use Rattle.organ.proofs.Within.{all-cleared-within}
-use Rattle.drive.specs.Follow as follow
+use Rattle.fault.specs.declared.Fault.the-variants.{NoFault}
 use Rattle.record.specs.declared.Regulator.{Regulator}
 use Rattle.record.specs.declared.starting.Started.{Started}
 use Rattle.record.specs.Limits.{ticksOf, delaysOf, motionWithin, countsWithin, withinOf}
+use Rattle.record.proofs.OfKind.{rest-kind}
 use Rattle.record.specs.Starting.{freshOf, zerosOf, startedOf, repliedOf, startOf}
 
 -- a sheet that passes gives a fresh record within its limits
@@ -31,8 +32,8 @@ module _ (s : List ℕ) (e : passesOf s ≡ true) where
       rw (all-cleared-within (delaysOf s) 7, le-leb _ _ (taps-range s e .3), le-leb _ _ (taps-range s e .4), le-leb (slot s nStart) 999999 (omega (arith, nStart-most s e)))
 
   fresh-motion : motionWithin s (freshOf s .drive) (freshOf s .wait) (freshOf s .latch) ≡ true
-  unfolding motionWithin freshOf ticksOf follow.withinOf
-  fresh-motion = rw (le-leb 0 (slot s t8) (omega arith))
+  unfolding motionWithin freshOf ticksOf
+  fresh-motion = rw (rest-kind s NoFault refl, le-leb 0 (slot s t8) (omega arith))
 
   pub fresh-within : withinOf (freshOf s) ≡ true
   unfolding withinOf freshOf
@@ -44,6 +45,7 @@ taken-number Taken = refl
 taken-number WrongLength = refl
 taken-number (OutOfRange i) = refl
 taken-number (TapOrder i) = refl
+taken-number CountedTap = refl
 
 module _ (a : Answer) (s : List ℕ) {b : Bool} {r : Regulator} (t : b ≡ isTaken a) where
   pub start-fresh : b ≡ true → r ≡ freshOf s → _≡_ {A = Started} (record { answer = a; state = r }) (startedOf a s)

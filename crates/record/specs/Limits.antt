@@ -1,17 +1,20 @@
--- The limits of a record (01, 'Limits of a record'). Definitions only.
+-- The limits of a record (01, 'Limits of a record'; 02, ticket 2). Definitions only.
 use Prim.Native.Nat.{ℕ, _+_}
 use mathlib.Core.Bool.{Bool, not, _&&_, _||_}
 use mathlib.Core.List.{List, [], _∷_}
 use lib.Dec.{leb, eqb}
-use Rattle.slots.specs.Slots.{slot, t4, t5, t8, organDelays, nL, nR}
+use Rattle.common.specs.Choice.{choose}
+use Rattle.slots.specs.Slots.{slot, t4, t5, t8, organDelays, nL, nR, isContinuous}
 use Rattle.sheet.specs.Sheet.{passesOf}
 use Rattle.organ.specs.declared.Organ.{Organ}
 use Rattle.organ.specs.Limits.{organsWithin}
 use Rattle.drive.specs.declared.Drive.{Drive}
+use Rattle.fault.specs.declared.Fault.{Fault}
 use Rattle.fault.specs.declared.Latch.{Latch}
 use Rattle.drive.specs.Follow as follow
 use Rattle.drive.specs.Follow.{restsOf}
-use Rattle.fault.specs.Latches.{isFault, latchWithin}
+use Rattle.drive.specs.Hold as hold
+use Rattle.fault.specs.Latches.{isFault, longOrNone, latchWithin}
 use Rattle.command.specs.declared.Wait.{Wait}
 use Rattle.command.specs.declared.Wait.the-variants.{Idle, For}
 use Rattle.record.specs.declared.Regulator.{Regulator}
@@ -27,12 +30,18 @@ delaysOf s =
     slot s organDelays ∷ slot s (organDelays + 1) ∷ slot s (organDelays + 2) ∷ slot s (organDelays + 3) ∷ slot s (organDelays + 4)
     ∷ slot s (organDelays + 5) ∷ slot s (organDelays + 6) ∷ []
 
--- "wait at most 35,999 and 0 unless the drive rests; an asked command's age (ticks after its first) below T5; a move's length 1–T4; at
--- most one fault, and then at rest; fault age .. at most T8, 0 without fault"
+-- "an asked command's age (ticks after its first) below T5; a move's length 1–T4". 02, ticket 2, with slot 63: "holds no move and no fault
+-- but 'long', and a held command's age is below T4, which stands there in place of T5".
+unfoldable pub kindWithin : List ℕ → Drive → Fault → Bool
+kindWithin s d f =
+    choose (isContinuous s) (hold.withinOf d (slot s t4) && longOrNone f) (follow.withinOf d (slot s t4) (slot s t5))
+
+-- "wait at most 35,999 and 0 unless the drive rests; [the drive's limits]; at most one fault, and then at rest; fault age .. at most T8, 0
+-- without fault"
 unfoldable pub motionWithin : List ℕ → Drive → Wait → Latch → Bool
 motionWithin s d w l =
     leb (ticksOf w) 35999 && (restsOf d || eqb (ticksOf w) 0)
-    && follow.withinOf d (slot s t4) (slot s t5)
+    && kindWithin s d (l .fault)
     && (not (isFault (l .fault)) || restsOf d)
     && latchWithin l (slot s t8)
 
@@ -41,7 +50,7 @@ unfoldable pub countsWithin : List ℕ → List Organ → ℕ → ℕ → Bool
 countsWithin s organs tap operations =
     organsWithin (delaysOf s) organs && leb (slot s nL) tap && leb tap (slot s nR) && leb operations 999999
 
--- "settings pass 2 and 3", and the above
+-- "settings pass 2 and 3", and 5 with ticket 2 of 02, and the above
 unfoldable pub withinOf : Regulator → Bool
 withinOf r =
     passesOf (r .settings)

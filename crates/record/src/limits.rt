@@ -1,11 +1,13 @@
 // The limits of a record. A record outside them is refused with 4.
 ghost use mathlib.Core.Path.{_≡_};
-ghost use Rattle.record.specs.Limits.{ticksOf, delaysOf, motionWithin, countsWithin, withinOf};
+ghost use Rattle.record.specs.Limits.{ticksOf, delaysOf, kindWithin, motionWithin, countsWithin, withinOf};
 use crate::Regulator;
 use command::Wait;
 use drive::Drive;
+use fault::Fault;
 use fault::Latch;
 use organ::Organ;
+use slots::CONTINUOUS;
 use slots::N_L;
 use slots::N_R;
 use slots::ORGAN_DELAYS;
@@ -41,14 +43,27 @@ fn organ_delays(s: &[u32; SLOTS]) -> [u32; 7]
     ]
 }
 
+// What the kind of drive allows: an asked command, a move and a fault.
+fn kind_within(s: &[u32; SLOTS], d: Drive, f: Fault) -> bool
+    ensures { λ r. ⌜ r ≡ kindWithin (now (s .entry)) d f ⌝ }
+{
+    if s[CONTINUOUS] == 1 {
+        let held = drive::hold::within(d, s[T4]);
+        let long = fault::is_long_or_none(f);
+        held & long
+    } else {
+        drive::follow::within(d, s[T4], s[T5])
+    }
+}
+
 // The drive, the wait and the fault.
 fn motion_within(s: &[u32; SLOTS], d: Drive, w: Wait, l: Latch) -> bool
     ensures { λ r. ⌜ r ≡ motionWithin (now (s .entry)) d w l ⌝ }
 {
     let ticks = wait_ticks(w);
     let rests = drive::follow::rests(d);
-    let moves = drive::follow::within(d, s[T4], s[T5]);
     let f = l.fault;
+    let moves = kind_within(s, d, f);
     let fault = fault::is_fault(f);
     let latched = fault::latch_within(l, s[T8]);
     (ticks <= 35999) & (rests | (ticks == 0)) & moves & (!fault | rests) & latched

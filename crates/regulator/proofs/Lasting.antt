@@ -3,37 +3,44 @@
 use mathlib.Core.Path.{_≡_, refl, sym, ap, _∙_}
 use mathlib.Core.Bool.{Bool, true, false, not, _||_}
 use mathlib.Core.List.{List, map}
+use mathlib.Core.Logic.{⊎-elim}
 use Prim.Native.Nat.{ℕ, _≤_}
 use native.Mathlib.Omega.{arith}
 use borrow.Author.Tests.{le-leb, lt-ltb, ltb-true}
 use lib.Dec.{leb, eqb}
 use Rattle.common.specs.Choice.{choose}
 use Rattle.common.proofs.Cases.{chosen}
-use Rattle.slots.specs.Slots.{slot, t4, t5, t8}
+use Rattle.slots.specs.Slots.{slot, t4, t5, t8, isContinuous}
 use Rattle.sheet.specs.Sheet.{passesOf}
-use Rattle.common.proofs.Joined.{and-five, or-true}
-use Rattle.sheet.proofs.Laws.{t1-range, t2-range, t3-range, t5-range}
+use Rattle.common.proofs.Joined.{split, and-five, or-true}
+use Rattle.sheet.proofs.Laws.{t1-range, t2-range, t3-range, t4-range, t5-range}
 use Rattle.organ.specs.declared.OrganInput.{OrganInput}
 use Rattle.ways.specs.declared.Direction.{Direction}
 use Rattle.drive.specs.declared.Drive.{Drive}
+use Rattle.drive.specs.declared.Drive.the-variants.{Asked}
 use Rattle.fault.specs.declared.Latch.{Latch}
 use Rattle.ways.specs.declared.Way.{Way}
 use Rattle.ways.specs.declared.Way.the-variants.{Neither, To}
-use Rattle.drive.specs.declared.follow.Contact.{Contact}
 use Rattle.drive.specs.declared.follow.Followed.{Followed}
 use Rattle.drive.specs.Follow as follow
-use Rattle.drive.specs.Follow.{followOf, restsOf}
+use Rattle.drive.specs.Follow.{restsOf}
+use Rattle.drive.specs.Hold as hold
 use Rattle.fault.specs.Latches.{isFault, laterOf, resetOf, latchWithin}
-use Rattle.drive.proofs.Kept as kept
+use Rattle.fault.proofs.Kept.{later-long, reset-long}
 use Rattle.command.specs.declared.Decided.{Decided}
 use Rattle.command.specs.declared.Situation.{Situation}
 use Rattle.command.specs.declared.Wait.{Wait}
 use Rattle.command.specs.declared.Wait.the-variants.{Idle, For}
 use Rattle.command.specs.Automatic.{delayOf}
 use Rattle.command.proofs.Sound.{Sound}
-use Rattle.record.specs.Limits.{ticksOf, delaysOf, motionWithin, withinOf}
+use Rattle.record.specs.Limits.{ticksOf, delaysOf, kindWithin, motionWithin}
+use Rattle.record.proofs.OfKind.{held-kind, kind-long, contact-kind}
 use Rattle.acting.specs.Accounting.{oneMoreOf, operationsOf}
 use Rattle.acting.specs.Commanding.{askOf}
+use Rattle.acting.specs.declared.judging.Finding.{Finding}
+use Rattle.acting.specs.Supervising.{clearedOf, followedOf}
+use Rattle.acting.proofs.EachKind.{faulty-stays, fault-stops, held-kept, contact-kept}
+use Rattle.input.specs.declared.Contacts.{Contacts}
 use Rattle.sensing.specs.Protecting.{organInputOf, organInputsOf}
 use Rattle.input.specs.declared.Readings.{Readings}
 
@@ -42,7 +49,7 @@ use Rattle.input.specs.declared.Readings.{Readings}
 pub record Parts (s : List ℕ) (d : Drive) (w : Wait) (l : Latch) : Type 0 where
   pub ticks : leb (ticksOf w) 35999 ≡ true
   pub rested : (restsOf d || eqb (ticksOf w) 0) ≡ true
-  pub moves : follow.withinOf d (slot s t4) (slot s t5) ≡ true
+  pub moves : kindWithin s d (l .fault) ≡ true
   pub stopped : (not (isFault (l .fault)) || restsOf d) ≡ true
   pub latched : latchWithin l (slot s t8) ≡ true
 
@@ -66,9 +73,9 @@ module _ (s : List ℕ) (pass : passesOf s ≡ true) where
       (λ p. chosen (λ n. n ≤ 36000) _ _ _ (λ q. t2-range s pass .1) (λ q. t1-range s pass .1))
 
   -- the drive before and after, the latch, and a sound decision
-  module _ (x : Situation) (o : Decided) (sound : Sound s x o) (d : Drive) (l : Latch)
+  module _ (x : Situation) (o : Decided) (sound : Sound s x o) (d : Drive) (b : Bool) (l : Latch)
       (rest : x .resting ≡ true → restsOf d ≡ true)
-      (moves : follow.withinOf d (slot s t4) (slot s t5) ≡ true)
+      (moves : kindWithin s d (l .fault) ≡ true)
       (stopped : isFault (l .fault) ≡ true → (restsOf d ≡ true) × (o .command ≡ Neither))
       (held : latchWithin l (slot s t8) ≡ true) where
     ticks-kept : (w : Wait) → o .wait ≡ w → leb (ticksOf w) 35999 ≡ true
@@ -77,28 +84,33 @@ module _ (s : List ℕ) (pass : passesOf s ≡ true) where
     ticks-kept (For e n) q =
         le-leb n 35999 (omega (arith, sound .waits e n q .early, delay-most e (x .far) (x .repeat)))
 
-    rested-kept : (w : Wait) → o .wait ≡ w → (restsOf (askOf d (o .command)) || eqb (ticksOf w) 0) ≡ true
+    rested-kept : (w : Wait) → o .wait ≡ w → (restsOf (askOf d b (o .command)) || eqb (ticksOf w) 0) ≡ true
     unfolding ticksOf askOf
-    rested-kept Idle e = or-true (restsOf (askOf d (o .command)))
+    rested-kept Idle e = or-true (restsOf (askOf d b (o .command)))
     rested-kept (For e n) q = rw (sound .waits e n q .command, rest (sound .waits e n q .resting))
 
-    moves-kept : (w : Way) → o .command ≡ w → follow.withinOf (askOf d w) (slot s t4) (slot s t5) ≡ true
-    unfolding askOf follow.withinOf
-    moves-kept Neither e = moves
-    moves-kept (To e) q = lt-ltb 0 (slot s t5) (omega (arith, t5-range s pass .0))
+    moves-kept : (w : Way) → kindWithin s (askOf d b w) (l .fault) ≡ true
+    unfolding askOf follow.withinOf hold.withinOf
+    moves-kept Neither = moves
+    moves-kept (To e) =
+        ⊎-elim
+        (λ c.
+        held-kind s (Asked e 0 b) (l .fault) c (lt-ltb 0 (slot s t4) (omega (arith, t4-range s pass .0))) (kind-long s d (l .fault) c moves))
+        (λ c. contact-kind s (Asked e 0 b) (l .fault) c (lt-ltb 0 (slot s t5) (omega (arith, t5-range s pass .0))))
+        (split (isContinuous s))
 
-    stopped-kept : (b : Bool) → isFault (l .fault) ≡ b → (not b || restsOf (askOf d (o .command))) ≡ true
+    stopped-kept : (a : Bool) → isFault (l .fault) ≡ a → (not a || restsOf (askOf d b (o .command))) ≡ true
     unfolding askOf
     stopped-kept false e = refl
     stopped-kept true e = rw (stopped e .1) (stopped e .0)
 
-    pub motion-kept : motionWithin s (askOf d (o .command)) (o .wait) l ≡ true
+    pub motion-kept : motionWithin s (askOf d b (o .command)) (o .wait) l ≡ true
     motion-kept =
         parts-motion s _ _ _
         (record {
           ticks = ticks-kept (o .wait) refl;
           rested = rested-kept (o .wait) refl;
-          moves = moves-kept (o .command) refl;
+          moves = moves-kept (o .command);
           stopped = stopped-kept (isFault (l .fault)) refl;
           latched = held;
         })
@@ -106,9 +118,13 @@ module _ (s : List ℕ) (pass : passesOf s ≡ true) where
 -- ---- rules 2 and 7: the drive and the latch
 
 -- a fault that is latched after the tick has the drive at rest
-module _ (d : Drive) (l : Latch) (pressed : Bool) (k : Contact) (four : 1 ≤ k .t4) (f : k .faulty ≡ isFault (resetOf l pressed .fault))
+module _ (s : List ℕ) (c : Contacts) (x : Finding) (d : Drive) (l : Latch) (last : Way) (four : 1 ≤ slot s t4)
     (before : (not (isFault (l .fault)) || restsOf d) ≡ true) where
-  was-latched : (b : Bool) → pressed ≡ b → isFault (resetOf l pressed .fault) ≡ true → isFault (l .fault) ≡ true
+  -- the drive, followed with the latch after reset
+  abbrev pub after : Followed
+  after = followedOf s c x d (clearedOf c l) last
+
+  was-latched : (b : Bool) → c .reset ≡ b → isFault (resetOf l (c .reset) .fault) ≡ true → isFault (l .fault) ≡ true
   unfolding resetOf choose
   was-latched true e h = let z : _≡_ {A = Bool} false true = (rw e at h) in cc
   was-latched false e h = rw e at h
@@ -117,14 +133,25 @@ module _ (d : Drive) (l : Latch) (pressed : Bool) (k : Contact) (four : 1 ≤ k 
   at-rest true e h = rw e at before
   at-rest false e h = let z : _≡_ {A = Bool} false true = h in cc
 
-  pub fault-rests : (b : Bool) → isFault (followOf d k .fault) ≡ b → isFault (laterOf (resetOf l pressed .fault) (followOf d k .fault)) ≡ true
-      → restsOf (followOf d k .drive) ≡ true
-  unfolding laterOf choose
-  fault-rests true e h = kept.follow-sound k four d .stopped e
+  pub fault-rests : (b : Bool) → isFault (after .fault) ≡ b → isFault (laterOf (clearedOf c l .fault) (after .fault)) ≡ true
+      → restsOf (after .drive) ≡ true
+  unfolding laterOf choose clearedOf
+  fault-rests true e h = fault-stops s c x d (clearedOf c l) last four e
   fault-rests false e h =
-      let g : isFault (resetOf l pressed .fault) ≡ true = rw e at h in
-      let q : restsOf d ≡ true = at-rest (isFault (l .fault)) refl (was-latched pressed refl g) in
-      ap (λ (o : Followed). restsOf (o .drive)) (sym (kept.faulty-stays k d (f ∙ g) q))
+      let g : isFault (resetOf l (c .reset) .fault) ≡ true = rw e at h in
+      let q : restsOf d ≡ true = at-rest (isFault (l .fault)) refl (was-latched (c .reset) refl g) in
+      ap (λ (o : Followed). restsOf (o .drive)) (sym (faulty-stays s c x d (clearedOf c l) last g q))
+
+  -- and what the kind of drive allows
+  pub kind-after : kindWithin s d (l .fault) ≡ true → kindWithin s (after .drive) (laterOf (clearedOf c l .fault) (after .fault)) ≡ true
+  unfolding clearedOf
+  kind-after m =
+      ⊎-elim
+      (λ e.
+      let h = held-kept s c x d (clearedOf c l) last e in
+      held-kind s (after .drive) _ e (h .0) (later-long _ _ (reset-long l (c .reset) (kind-long s d (l .fault) e m)) (h .1)))
+      (λ e. contact-kind s (after .drive) _ e (contact-kept s c x d (clearedOf c l) last four e))
+      (split (isContinuous s))
 
 -- ---- rules 5 and 7: the counts
 
@@ -138,7 +165,6 @@ module _ (s : List ℕ) where
   one-more-most n h =
       chosen (λ k. k ≤ 999999) _ _ _ (λ p. chosen (λ k. k ≤ 999999) _ _ _ (λ q. omega (arith, ltb-true n 999999 q)) (λ q. omega arith)) (λ p. h)
 
-  pub operations-most : (n : ℕ) (w : Way) → n ≤ 999999 → operationsOf s n w ≤ 999999
+  pub operations-most : (n : ℕ) (operation : Bool) → n ≤ 999999 → operationsOf s n operation ≤ 999999
   unfolding operationsOf
-  operations-most n Neither h = h
-  operations-most n (To d) h = one-more-most n h
+  operations-most n operation h = chosen (λ k. k ≤ 999999) _ _ _ (λ p. one-more-most n h) (λ p. h)

@@ -10,6 +10,7 @@ use Rattle.blocks.specs.declared.Blocks.{Blocks}
 use Rattle.record.specs.declared.Regulator.{Regulator}
 use Rattle.acting.specs.declared.accounting.Accounted.{Accounted}
 use Rattle.sensing.specs.declared.assessing.Assessed.{Assessed}
+use Rattle.acting.specs.declared.judging.Finding.{Finding}
 use Rattle.acting.specs.declared.commanding.Memory.{Memory}
 use Rattle.acting.specs.declared.commanding.Regulated.{Regulated}
 use Rattle.sensing.specs.declared.observing.Observed.{Observed}
@@ -19,13 +20,14 @@ use Rattle.sensing.specs.Observing.{observedOf}
 use Rattle.sensing.specs.Protecting.{protectedOf}
 use Rattle.sensing.specs.Assessing.{assessedOf}
 use Rattle.acting.specs.Supervising.{supervisedOf}
-use Rattle.acting.specs.Commanding.{blockedOf, regulatedOf}
+use Rattle.acting.specs.Judging.{blockedOf}
+use Rattle.acting.specs.Commanding.{regulatedOf}
 use Rattle.acting.specs.Accounting.{accountedOf}
 use Rattle.showing.specs.Showing.{outputsOf}
 use Rattle.regulator.specs.declared.Acted.{Acted}
 use Rattle.regulator.specs.declared.Sensed.{Sensed}
 use Rattle.regulator.specs.declared.Ticked.{Ticked}
-use Rattle.regulator.specs.Ticks.{observedIn, protectedIn, assessedIn, sensedOf, supervisedIn, blockedIn, memoryOf, regulatedIn, accountedIn, actedOf, shownOf, nextOf, endOf, ranOf}
+use Rattle.regulator.specs.Ticks.{observedIn, protectedIn, assessedIn, sensedOf, findingOf, supervisedIn, blockedIn, memoryOf, regulatedIn, accountedIn, actedOf, shownOf, nextOf, endOf, ranOf}
 
 module _ (r : Regulator) (i : Input) (c : Contacts) where
   pub sense-made : {o : Observed} {g : Organs} {a : Assessed}
@@ -47,12 +49,13 @@ module _ (r : Regulator) (i : Input) (c : Contacts) where
   live-made p q s u n = rw (← p, ← q, ← s, u, n)
 
 module _ (r : Regulator) (c : Contacts) (x : Sensed) where
-  pub act-made : {v : Supervised} {b : Blocks} {m : Memory} {g : Regulated} {a : Accounted}
-      → v ≡ supervisedOf (r .settings) c (x .observed .position .tap) (r .drive) (r .latch) (r .last)
-      → b ≡ blockedOf (r .settings) c (v .latch .fault) (x .observed .section) (x .assessed .level) (x .organs .trips) (x .observed .position .tap)
+  pub act-made : {f : Finding} {v : Supervised} {b : Blocks} {m : Memory} {g : Regulated} {a : Accounted}
+      → f ≡ findingOf x
+      → v ≡ supervisedOf (r .settings) c f (r .drive) (r .latch) (r .last)
+      → b ≡ blockedOf (r .settings) c (v .latch .fault) f
       → m ≡ memoryOf r
       → g ≡ regulatedOf (r .settings) c (x .assessed) b m (v .drive)
-      → a ≡ accountedOf (r .settings) (v .ended) (r .last) (r .operations) (r .«counted_tap»)
+      → a ≡ accountedOf (r .settings) (v .ended) (v .operation) (r .last) (r .operations) (r .«counted_tap»)
       → _≡_ {A = Acted} (record { supervised = v; blocks = b; regulated = g; accounted = a }) (actedOf r c x)
   unfolding actedOf supervisedIn blockedIn regulatedIn accountedIn
-  act-made p q m u w = rw (← p, ← q, ← m, u, w)
+  act-made f p q m u w = rw (← f, ← p, ← q, ← m, u, w)

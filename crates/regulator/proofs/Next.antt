@@ -15,11 +15,10 @@ use Rattle.organ.specs.Limits.{organsWithin}
 use Rattle.organ.proofs.Within.{all-step-within}
 use Rattle.ways.specs.declared.Way.{Way}
 use Rattle.ways.specs.declared.Way.the-variants.{Neither, To}
-use Rattle.drive.specs.declared.follow.Contact.{Contact}
+use Rattle.acting.specs.declared.judging.Finding.{Finding}
 use Rattle.drive.specs.Follow.{restsOf}
 use Rattle.fault.specs.Latches.{isFault, latchedOf}
 use Rattle.fault.proofs.Kept.{latched-within}
-use Rattle.drive.proofs.Kept as kept
 use Rattle.tap.proofs.Steps.{counted-kept}
 use Rattle.input.specs.declared.Contacts.{Contacts}
 use Rattle.input.specs.declared.Input.{Input}
@@ -28,18 +27,19 @@ use Rattle.blocks.proofs.Laws.{fault-blocks-automatic, fault-blocks-manual}
 use Rattle.command.specs.declared.Decided.{Decided}
 use Rattle.command.specs.declared.Situation.{Situation}
 use Rattle.command.proofs.Sound.{Sound, decided-sound, modeBlocked}
-use Rattle.record.specs.Limits.{motionWithin, countsWithin, withinOf, delaysOf}
+use Rattle.record.specs.Limits.{kindWithin, motionWithin, countsWithin, withinOf, delaysOf}
 use Rattle.record.specs.declared.Regulator.{Regulator}
 use Rattle.record.proofs.Starts.{fresh-within}
 use Rattle.acting.specs.Accounting.{accountedOf}
-use Rattle.acting.specs.Commanding.{blockedOf, askOf, situationOf, decisionOf, regulatedOf}
+use Rattle.acting.specs.Judging.{blockedOf}
+use Rattle.acting.specs.Commanding.{askOf, situationOf, decisionOf, regulatedOf}
 use Rattle.sensing.specs.Protecting.{protectedOf}
-use Rattle.acting.specs.Supervising.{contactOf, clearedOf, followedOf, supervisedOf}
+use Rattle.acting.specs.Supervising.{clearedOf, supervisedOf}
 use Rattle.acting.specs.declared.supervising.Supervised.{Supervised}
 use Rattle.regulator.specs.declared.Sensed.{Sensed}
 use Rattle.regulator.specs.declared.Ticked.{Ticked}
-use Rattle.regulator.specs.Ticks.{sensedOf, protectedIn, supervisedIn, blockedIn, memoryOf, regulatedIn, accountedIn, actedOf, nextOf, endOf, ranOf, isOut, outOf, refusedOf, tickOf}
-use Rattle.regulator.proofs.Lasting.{Parts, motion-parts, motion-kept, fault-rests, delays-are, operations-most}
+use Rattle.regulator.specs.Ticks.{sensedOf, protectedIn, findingOf, supervisedIn, blockedIn, memoryOf, regulatedIn, accountedIn, actedOf, nextOf, endOf, ranOf, isOut, outOf, refusedOf, tickOf}
+use Rattle.regulator.proofs.Lasting.{Parts, motion-parts, motion-kept, fault-rests, kind-after, delays-are, operations-most}
 
 module _ (r : Regulator) (h : withinOf r ≡ true) where
   pub pass : passesOf (r .settings) ≡ true
@@ -58,9 +58,6 @@ module _ (r : Regulator) (h : withinOf r ≡ true) where
     abbrev v : Supervised
     v = supervisedIn r c x
 
-    abbrev k : Contact
-    k = contactOf (r .settings) c (x .observed .position .tap) (clearedOf c (r .latch)) (r .last)
-
     abbrev situated : Situation
     situated = situationOf c (x .assessed) (blockedIn r c x v) (memoryOf r) (v .drive)
 
@@ -71,14 +68,17 @@ module _ (r : Regulator) (h : withinOf r ≡ true) where
     unfolding decisionOf
     sound = decided-sound (r .settings) situated
 
-    four-or-more : 1 ≤ k .t4
-    unfolding contactOf
+    four-or-more : 1 ≤ slot (r .settings) t4
     four-or-more = omega (arith, t4-range (r .settings) pass .0)
 
     -- a fault has the drive at rest, and lets no command begin
     rests-in-fault : isFault (v .latch .fault) ≡ true → restsOf (v .drive) ≡ true
-    unfolding supervisedIn supervisedOf followedOf clearedOf latchedOf contactOf
-    rests-in-fault e = fault-rests (r .drive) (r .latch) (c .reset) k four-or-more refl (motion .stopped) _ refl e
+    unfolding supervisedIn supervisedOf latchedOf
+    rests-in-fault e = fault-rests (r .settings) c (findingOf x) (r .drive) (r .latch) (r .last) four-or-more (motion .stopped) _ refl e
+
+    kind-kept : kindWithin (r .settings) (v .drive) (v .latch .fault) ≡ true
+    unfolding supervisedIn supervisedOf latchedOf
+    kind-kept = kind-after (r .settings) c (findingOf x) (r .drive) (r .latch) (r .last) four-or-more (motion .stopped) (motion .moves)
 
     mode-in-fault : isFault (v .latch .fault) ≡ true → modeBlocked situated ≡ true
     unfolding situationOf blockedIn blockedOf
@@ -93,10 +93,10 @@ module _ (r : Regulator) (h : withinOf r ≡ true) where
     unfolding situationOf
     rest e = and-right (restsOf (r .drive)) _ e
 
-    next-motion : motionWithin (r .settings) (askOf (v .drive) (decided .command)) (decided .wait) (v .latch) ≡ true
-    unfolding supervisedIn supervisedOf followedOf contactOf
+    next-motion : motionWithin (r .settings) (askOf (v .drive) (c .automatic) (decided .command)) (decided .wait) (v .latch) ≡ true
+    unfolding supervisedIn supervisedOf
     next-motion =
-        motion-kept (r .settings) pass situated decided sound (v .drive) (v .latch) rest (kept.follow-sound k four-or-more (r .drive) .within)
+        motion-kept (r .settings) pass situated decided sound (v .drive) (c .automatic) (v .latch) rest kind-kept
         (λ e. (rests-in-fault e, no-command e (decided .command) refl)) (latched-within _ _ _)
 
     next-counts : countsWithin (r .settings) (protectedIn r (x .observed) .organs) (accountedIn r v .tap) (accountedIn r v .operations) ≡ true
@@ -106,7 +106,7 @@ module _ (r : Regulator) (h : withinOf r ≡ true) where
         and-four (organsWithin (delaysOf (r .settings)) (r .organs)) (leb (slot (r .settings) nL) (r .«counted_tap»))
         (leb (r .«counted_tap») (slot (r .settings) nR)) (leb (r .operations) 999999) counts in
         let b = counted-kept (r .settings) (r .«counted_tap») (leb-true _ _ (p .1)) (leb-true _ _ (p .2)) (v .ended) in
-        let o = operations-most (r .settings) (r .operations) (v .ended) (leb-true _ _ (p .3)) in
+        let o = operations-most (r .settings) (r .operations) (v .operation) (leb-true _ _ (p .3)) in
         rw (← delays-are (r .settings) (x .observed .readings) (x .observed .section), all-step-within, le-leb _ _ (b .above), le-leb _ _ (b .below), le-leb _ _ o)
 
   pub next-within : (i : Input) (c : Contacts) → withinOf (ranOf r i c .next) ≡ true

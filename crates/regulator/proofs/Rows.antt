@@ -7,6 +7,7 @@ use mathlib.Core.Bool.{Bool, true, false, true≢false}
 use mathlib.Core.List.{List, [], _∷_, _++_, append-assoc, tail-eq-of-cons-eq, head-eq-of-cons-eq, cons≢nil}
 use mathlib.Core.Logic.{_⊎_, inl, inr, ⊎-elim, _↔_}
 use lib.ListN.{length, length-append}
+use Rattle.slots.specs.Slots.{slot, continuous}
 use Rattle.ways.specs.declared.Direction.{Direction}
 use Rattle.input.specs.declared.Input.{Input}
 use Rattle.record.specs.declared.Regulator.{Regulator}
@@ -21,6 +22,10 @@ use Rattle.regulator.proofs.Waits.{begun-moves, force-is, force-least, 
 -- Lists of ticks.
 abbrev pub Open : Tick → Type 0
 Open t = closed t ≡ false
+
+-- as a waiting tick must be
+abbrev pub Free : Tick → Type 0
+Free t = (slot (t .settings) continuous ≡ 1) ⊎ (closed t ≡ false)
 
 abbrev pub Closed : Tick → Type 0
 Closed t = closed t ≡ true
@@ -94,7 +99,7 @@ began d rest r (i ∷ is) k h z = zero-after d r rest r i is k h z
 -- A row of waiting ticks.
 pub row-begins :
     (d : Direction) (rest : Bool) (r : Regulator) (is : List Input) → Linked rest r → rest ≡ true →
-    All (Lasting d) (ticksFrom rest r is) → All Open (ticksFrom rest r is) → 0 < length is →
+    All (Lasting d) (ticksFrom rest r is) → All Free (ticksFrom rest r is) → 0 < length is →
     longest (r .settings) ≤ waitTo d r + length is → Some (Begins d) (ticksFrom rest r is)
 row-begins d rest r [] k e l o p q = absurd (omega arith)
 row-begins d rest r (i ∷ is) k e l o p q =

@@ -10,7 +10,7 @@ use mathlib.Core.List.{List, [], _∷_, _++_}
 use mathlib.Core.Logic.{_⊎_, inl, inr, ⊎-elim}
 use lib.ListN.{length, length-append}
 use Rattle.common.proofs.Joined.{split}
-use Rattle.slots.specs.Slots.{slot, t4, t5}
+use Rattle.slots.specs.Slots.{slot, t4, t5, continuous}
 use Rattle.ways.specs.declared.Direction.{Direction}
 use Rattle.ways.specs.declared.Direction.the-variants.{Raise, Lower}
 use Rattle.drive.specs.declared.Drive.the-variants.{Asked, Moving}
@@ -20,75 +20,87 @@ use Rattle.record.specs.declared.Regulator.{Regulator}
 use Rattle.record.specs.Limits.{withinOf}
 use Rattle.claim.specs.Claim.{Tick, output, commandField, All, Some, Begins, Lasting, longest, Serves, Command}
 use Rattle.regulator.specs.Lists.{ticksFrom}
-use Rattle.claim.proofs.Lists.{all-front, all-back, some-back, some-or-none}
+use Rattle.claim.proofs.Lists.{all-front, all-back, all-map, some-back, some-or-none}
 use Rattle.regulator.proofs.Steps.{tickAt, nextAt, restAt, Linked, accepted-within, settings-kept, within-kept, linked-kept}
 use Rattle.regulator.proofs.Waits.{begun-asked, force-least, force-most}
 use Rattle.regulator.proofs.Moves.{asked-open, asked-closed, moving-closed, moving-open}
 use Rattle.regulator.proofs.Rows.{Open, Closed, recordAfter, restAfter, cut, length-ticks, linked-step, linked-after, settings-after, within-after, row-begins, uncons}
 
 -- The drive serves a command: asked, moving, and at rest again.
+-- it has the switching contact, and goes on having it
+abbrev HasContact : Regulator → Type 0
+HasContact r = slot (r .settings) continuous ≡ 0
+
+contact-on : (r : Regulator) (i : Input) → HasContact r → HasContact (nextAt r i)
+contact-on r i z = ap (λ (s : List ℕ). slot s continuous) (settings-kept r i) ∙ z
+
+contact-after : (r : Regulator) (is : List Input) → HasContact r → HasContact (recordAfter r is)
+contact-after r is z = ap (λ (s : List ℕ). slot s continuous) (settings-after r is) ∙ z
+
 to-moving :
-    (side u : Direction) (rest : Bool) (r : Regulator) (is : List Input) (a : ℕ) → r .drive ≡ Asked u a →
-    All (Lasting side) (ticksFrom rest r is) → All Open (ticksFrom rest r is) → (b : ℕ) × ((recordAfter r is) .drive ≡ Asked u b)
-to-moving side u rest r [] a d l o = (a, d)
-to-moving side u rest r (i ∷ is) a d l o =
-    let n = asked-open side rest r i (l .0) u a d (o .0) in
-    to-moving side u (restAt r i) (nextAt r i) is (n .0) (n .1) (l .1) (o .1)
+    (side u : Direction) (rest : Bool) (r : Regulator) (is : List Input) (a : ℕ) (m : Bool) → HasContact r → r .drive ≡ Asked u a m →
+    All (Lasting side) (ticksFrom rest r is) → All Open (ticksFrom rest r is) → (b : ℕ) × ((recordAfter r is) .drive ≡ Asked u b m)
+to-moving side u rest r [] a m z d l o = (a, d)
+to-moving side u rest r (i ∷ is) a m z d l o =
+    let n = asked-open side rest r i (l .0) z u a m d (o .0) in
+    to-moving side u (restAt r i) (nextAt r i) is (n .0) m (contact-on r i z) (n .1) (l .1) (o .1)
 
 moving-on :
-    (side u : Direction) (rest : Bool) (r : Regulator) (is : List Input) (n : ℕ) → r .drive ≡ Moving u n true →
+    (side u : Direction) (rest : Bool) (r : Regulator) (is : List Input) (n : ℕ) → HasContact r → r .drive ≡ Moving u n true →
     All (Lasting side) (ticksFrom rest r is) → All Closed (ticksFrom rest r is) → (m : ℕ) × ((recordAfter r is) .drive ≡ Moving u m true)
-moving-on side u rest r [] n d l o = (n, d)
-moving-on side u rest r (i ∷ is) n d l o =
-    let q = moving-closed side rest r i (l .0) u n d (o .0) in
-    moving-on side u (restAt r i) (nextAt r i) is (q .0) (q .1) (l .1) (o .1)
+moving-on side u rest r [] n z d l o = (n, d)
+moving-on side u rest r (i ∷ is) n z d l o =
+    let q = moving-closed side rest r i (l .0) z u n d (o .0) in
+    moving-on side u (restAt r i) (nextAt r i) is (q .0) (contact-on r i z) (q .1) (l .1) (o .1)
 
 -- from a closed contact on: the first closed tick, the others, the open tick that ends the move, and the row after it
 after-closed :
-    (side u : Direction) (rest : Bool) (r : Regulator) (i : Input) (held : List Input) (a : ℕ) → r .drive ≡ Asked u a →
+    (side u : Direction) (rest : Bool) (r : Regulator) (i : Input) (held : List Input) (a : ℕ) (m : Bool) → HasContact r → r .drive ≡ Asked u a m →
     All (Lasting side) (ticksFrom rest r (i ∷ held)) → All Closed (ticksFrom rest r (i ∷ held)) →
     (m : ℕ) × ((recordAfter r (i ∷ held)) .drive ≡ Moving u m true)
-after-closed side u rest r i held a d l o =
-    moving-on side u (restAt r i) (nextAt r i) held 1 (asked-closed side rest r i (l .0) u a d (o .0)) (l .1) (o .1)
+after-closed side u rest r i held a m z d l o =
+    moving-on side u (restAt r i) (nextAt r i) held 1 (contact-on r i z) (asked-closed side rest r i (l .0) z u a m d (o .0)) (l .1) (o .1)
 
 after-open :
-    (side u : Direction) (rest : Bool) (r : Regulator) (is : List Input) (n : ℕ) → withinOf r ≡ true → r .drive ≡ Moving u n true →
+    (side u : Direction) (rest : Bool) (r : Regulator) (is : List Input) (n : ℕ) → HasContact r → withinOf r ≡ true → r .drive ≡ Moving u n true →
     All (Lasting side) (ticksFrom rest r is) → All Open (ticksFrom rest r is) → longest (r .settings) < length is →
     0 < longest (r .settings) → Some (Begins side) (ticksFrom rest r is)
-after-open side u rest r [] n h d l o p q = absurd (omega arith)
-after-open side u rest r (i ∷ is) n h d l o p q =
+after-open side u rest r [] n z h d l o p q = absurd (omega arith)
+after-open side u rest r (i ∷ is) n z h d l o p q =
     let t : longest ((nextAt r i) .settings) ≡ longest (r .settings) = ap longest (settings-kept r i) in
     inr
     (row-begins side (restAt r i) (nextAt r i) is (linked-step rest r i)
-    (linked-kept r i h ∙ ap restsOf (moving-open side rest r i (l .0) u n d (o .0)))
-    (l .1) (o .1) (omega arith) (omega arith))
+    (linked-kept r i h ∙ ap restsOf (moving-open side rest r i (l .0) z u n d (o .0)))
+    (l .1) (all-map (ticksFrom (restAt r i) (nextAt r i) is) (λ t p. inr p) (o .1)) (omega arith) (omega arith))
 
 -- A row in which a command is served, its ticks given by what they brought.
 served :
-    (side : Direction) (rest : Bool) (r : Regulator) (before : List Input) (i : Input) (held after : List Input) → withinOf r ≡ true →
-    r .drive ≡ Asked side 0 → All (Lasting side) (ticksFrom rest r before) → All Open (ticksFrom rest r before) →
+    (side : Direction) (rest : Bool) (r : Regulator) (before : List Input) (i : Input) (held after : List Input) (b : Bool) → HasContact r → withinOf r ≡ true →
+    r .drive ≡ Asked side 0 b → All (Lasting side) (ticksFrom rest r before) → All Open (ticksFrom rest r before) →
     All (Lasting side) (ticksFrom (restAfter rest r before) (recordAfter r before) (i ∷ held)) →
     All Closed (ticksFrom (restAfter rest r before) (recordAfter r before) (i ∷ held)) →
     All (Lasting side) (ticksFrom (restAfter (restAfter rest r before) (recordAfter r before) (i ∷ held)) (recordAfter (recordAfter r before) (i ∷ held)) after) →
     All Open (ticksFrom (restAfter (restAfter rest r before) (recordAfter r before) (i ∷ held)) (recordAfter (recordAfter r before) (i ∷ held)) after) →
     0 < longest (r .settings) → longest (r .settings) < length after →
     Some (Begins side) (ticksFrom (restAfter (restAfter rest r before) (recordAfter r before) (i ∷ held)) (recordAfter (recordAfter r before) (i ∷ held)) after)
-served side rest r before i held after h d l₁ o₁ l₂ o₂ l₃ o₃ p q =
-    let a = to-moving side side rest r before 0 d l₁ o₁ in
-    let m = after-closed side side (restAfter rest r before) (recordAfter r before) i held (a .0) (a .1) l₂ o₂ in
+served side rest r before i held after b z h d l₁ o₁ l₂ o₂ l₃ o₃ p q =
+    let a = to-moving side side rest r before 0 b z d l₁ o₁ in
+    let y = contact-after r before z in
+    let m = after-closed side side (restAfter rest r before) (recordAfter r before) i held (a .0) b y (a .1) l₂ o₂ in
     let r₃ = recordAfter (recordAfter r before) (i ∷ held) in
     let s : longest (r₃ .settings) ≡ longest (r .settings) =
     ap longest (settings-after (recordAfter r before) (i ∷ held) ∙ settings-after r before) in
     after-open side side (restAfter (restAfter rest r before) (recordAfter r before) (i ∷ held)) r₃ after (m .0)
+    (contact-after (recordAfter r before) (i ∷ held) y)
     (within-after (recordAfter r before) (i ∷ held) ∙ within-after r before ∙ h)
     (m .1) l₃ o₃ (omega arith) (omega arith)
 
 -- the same, its ticks given as lists of ticks
 served-row :
-    (side : Direction) (rest : Bool) (r : Regulator) (is : List Input) (s : List ℕ) (row : List Tick) → row ≡ ticksFrom rest r is → withinOf r ≡ true →
-    r .settings ≡ s → r .drive ≡ Asked side 0 → All (Lasting side) row → Serves s row → 0 < longest s →
+    (side : Direction) (rest : Bool) (r : Regulator) (is : List Input) (s : List ℕ) (row : List Tick) (b : Bool) → row ≡ ticksFrom rest r is → HasContact r →
+    withinOf r ≡ true → r .settings ≡ s → r .drive ≡ Asked side 0 b → All (Lasting side) row → Serves s row → 0 < longest s →
     slot s t5 + slot s t4 + longest s ≤ length row → Some (Begins side) row
-served-row side rest r is s row e h t d l v z n =
+served-row side rest r is s row u e has h t d l v z n =
     let b = cut rest r is (v .before) (v .held ++ v .after) (sym e ∙ v .whole) in
     let r₁ = recordAfter r (b .front) in
     let rest₁ = restAfter rest r (b .front) in
@@ -119,7 +131,7 @@ served-row side rest r is s row e h t d l v z n =
         ∙ length-ticks (restAfter (restAfter rest r before) (recordAfter r before) (i ∷ held)) (recordAfter (recordAfter r before) (i ∷ held)) after in
         let t₂ : longest (r .settings) ≡ longest s = ap longest t in
         subst (Some (Begins side)) (sym ew)
-        (served side rest r before i held after h d (subst (All (Lasting side)) ex lx) (subst (All Open) ex ox)
+        (served side rest r before i held after u has h d (subst (All (Lasting side)) ex lx) (subst (All Open) ex ox)
         (subst (All (Lasting side)) ey ly) (subst (All Closed) ey oy) (subst (All (Lasting side)) ew lw) (subst (All Open) ew ow)
         (omega arith) (omega arith))
 
@@ -157,9 +169,9 @@ some-command side (t ∷ l) (inr s) = inr (some-command side l s)
 pub again-of :
     (side : Direction) (rest : Bool) (r : Regulator) (is : List Input) → Linked rest r →
     (pre : List Tick) (first : Tick) (row post : List Tick) → ticksFrom rest r is ≡ pre ++ (first ∷ (row ++ post)) →
-    Begins side first → length row ≡ slot (r .settings) t5 + slot (r .settings) t4 + longest (r .settings) →
+    slot (r .settings) continuous ≡ 0 → Begins side first → length row ≡ slot (r .settings) t5 + slot (r .settings) t4 + longest (r .settings) →
     (All (λ t. Command t → ⊥) row → All (Lasting side) row × Serves (r .settings) row) → Some Command row
-again-of side rest r is k pre first row post e b n f =
+again-of side rest r is k pre first row post e z b n f =
     ⊎-elim (λ s. s)
     (λ none.
     let c = cut rest r is pre (first ∷ (row ++ post)) e in
@@ -174,7 +186,8 @@ again-of side rest r is k pre first row post e b n f =
     let most = force-most side r₁ i in
     let s : longest (r₁ .settings) ≡ longest (r .settings) = ap longest (settings-after r (c .front)) in
     some-command side row
-    (served-row side (restAt r₁ i) (nextAt r₁ i) (g .front) (r .settings) row (g .isFront) (within-kept r₁ i ∙ h₁)
+    (served-row side (restAt r₁ i) (nextAt r₁ i) (g .front) (r .settings) row _ (g .isFront)
+    (contact-on r₁ i (contact-after r (c .front) z)) (within-kept r₁ i ∙ h₁)
     (settings-kept r₁ i ∙ settings-after r (c .front)) (begun-asked side rest₁ r₁ i (linked-after rest r (c .front) k) b₁)
     ((f none) .0) ((f none) .1) (omega arith) (omega arith)))
     (some-or-none Command command-decided row)

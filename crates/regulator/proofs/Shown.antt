@@ -25,11 +25,12 @@ use Rattle.input.specs.Brought.{contactsOf}
 use Rattle.blocks.specs.declared.Blocks.{Blocks}
 use Rattle.command.specs.declared.Decided.{Decided}
 use Rattle.command.specs.declared.Situation.{Situation}
-use Rattle.command.specs.Automatic.{opposedOf}
+use Rattle.blocks.specs.Blocked.{opposedOf}
 use Rattle.command.specs.Deciding.{decidedOf}
 use Rattle.record.specs.declared.Regulator.{Regulator}
 use Rattle.acting.specs.declared.supervising.Supervised.{Supervised}
-use Rattle.acting.specs.Commanding.{sideOf, askOf, situationOf, decisionOf, regulatedOf}
+use Rattle.acting.specs.Judging.{sideOf}
+use Rattle.acting.specs.Commanding.{askOf, situationOf, decisionOf, regulatedOf}
 use Rattle.showing.specs.Showing as showing
 use Rattle.showing.specs.Showing.{isLow, isHigh, signalsOf, fieldsOf, outputsOf}
 use Rattle.regulator.specs.declared.Sensed.{Sensed}
@@ -62,7 +63,7 @@ abbrev pub decidedAt : Regulator → Input → Decided
 decidedAt r i = decidedOf (r .settings) (situationAt r i)
 
 abbrev pub driveAt : Regulator → Input → Drive
-driveAt r i = askOf (supervisedAt r i .drive) (decidedAt r i .command)
+driveAt r i = askOf (supervisedAt r i .drive) (contactsAt i .automatic) (decidedAt r i .command)
 
 abbrev pub liveAt : Regulator → Input → Ticked
 liveAt r i = ranOf r i (contactsAt i)

@@ -11,23 +11,27 @@ use Rattle.slots.specs.Slots.{slot, inService, t7}
 use Rattle.ways.specs.declared.Direction.{Direction}
 use Rattle.ways.specs.declared.Direction.the-variants.{Raise, Lower}
 use Rattle.ways.specs.declared.Way.the-variants.{To}
-use Rattle.drive.specs.declared.follow.Contact.{Contact}
-use Rattle.drive.specs.Follow.{followOf, restsOf}
+use Rattle.acting.specs.declared.judging.Finding.{Finding}
+use Rattle.drive.specs.declared.follow.Followed.{Followed}
+use Rattle.fault.specs.declared.Latch.{Latch}
+use Rattle.drive.specs.declared.Drive.{Drive}
+use Rattle.drive.specs.Follow.{restsOf}
 use Rattle.fault.specs.Latches.{isFault, latchedOf}
 use Rattle.drive.specs.Shown.{onOf}
 use Rattle.ways.proofs.Cases.{one-way}
 use Rattle.fault.proofs.Kept.{later-none}
 use Rattle.input.specs.declared.Input.{Input}
 use Rattle.blocks.proofs.Laws.{automatic-no-fault, automatic-not-local}
-use Rattle.command.specs.Automatic.{waitedOf, opposedOf}
+use Rattle.blocks.specs.Blocked.{opposedOf}
+use Rattle.command.specs.Automatic.{waitedOf}
 use Rattle.record.specs.declared.Regulator.{Regulator}
 use Rattle.record.specs.Limits.{withinOf}
 use Rattle.record.specs.Starting.{freshOf}
-use Rattle.acting.specs.Commanding.{blockedOf, sideOf}
+use Rattle.acting.specs.Judging.{blockedOf, sideOf}
 use Rattle.showing.specs.Showing as showing
-use Rattle.acting.specs.Supervising.{contactOf, clearedOf, followedOf, supervisedOf}
+use Rattle.acting.specs.Supervising.{clearedOf, followedOf, supervisedOf}
 use Rattle.regulator.specs.declared.Ticked.{Ticked}
-use Rattle.regulator.specs.Ticks.{supervisedIn, blockedIn, isOut, outOf, refusedOf, tickOf}
+use Rattle.regulator.specs.Ticks.{findingOf, supervisedIn, blockedIn, isOut, outOf, refusedOf, tickOf}
 use Rattle.claim.specs.Claim.{Tick, restAfter, blockField, sideField, Lasting}
 use Rattle.regulator.specs.Lists.{seen}
 use Rattle.regulator.proofs.Next.{tick-lasting}
@@ -103,26 +107,32 @@ module _ (r : Regulator) (i : Input) where
 
 -- ---- a tick in service, lasting to a side
 
--- the contact as rule 7 sees it
-abbrev pub contactAt : Regulator → Input → Contact
-contactAt r i = contactOf (r .settings) (contactsAt i) (sensedAt r i .observed .position .tap) (clearedOf (contactsAt i) (r .latch)) (r .last)
+-- what the rules before rule 7 have found, the latch after reset, and the drive that rule 7 gives, whatever its kind
+abbrev pub findingAt : Regulator → Input → Finding
+findingAt r i = findingOf (sensedAt r i)
+
+abbrev pub clearedAt : Regulator → Input → Latch
+clearedAt r i = clearedOf (contactsAt i) (r .latch)
+
+abbrev pub followedAt : Drive → Regulator → Input → Followed
+followedAt d r i = followedOf (r .settings) (contactsAt i) (findingAt r i) d (clearedAt r i) (r .last)
 
 module _ (r : Regulator) (i : Input) where
-  pub followed-is : supervisedAt r i .drive ≡ followOf (r .drive) (contactAt r i) .drive
-  unfolding supervisedIn supervisedOf followedOf
+  pub followed-is : supervisedAt r i .drive ≡ followedAt (r .drive) r i .drive
+  unfolding supervisedIn supervisedOf
   followed-is = refl
 
   pub no-fault-before : isFault (supervisedAt r i .latch .fault) ≡ false
-      → (isFault (followOf (r .drive) (contactAt r i) .fault) ≡ false) × (contactAt r i .faulty ≡ false)
-  unfolding supervisedIn supervisedOf followedOf latchedOf contactOf
+      → (isFault (followedAt (r .drive) r i .fault) ≡ false) × (isFault (clearedAt r i .fault) ≡ false)
+  unfolding supervisedIn supervisedOf latchedOf
   no-fault-before e = later-none _ _ e
 
   pub blocks-no-fault : blocksAt r i .automatic ≡ false → isFault (supervisedAt r i .latch .fault) ≡ false
   unfolding blockedIn blockedOf
   blocks-no-fault e = automatic-no-fault (r .settings) (contactsAt i) _ e
 
-  pub blocks-not-local : blocksAt r i .automatic ≡ false → contactAt r i .local ≡ false
-  unfolding blockedIn blockedOf contactOf
+  pub blocks-not-local : blocksAt r i .automatic ≡ false → contactsAt i .«local_drive» ≡ false
+  unfolding blockedIn blockedOf
   blocks-not-local e = automatic-not-local (r .settings) (contactsAt i) _ e
 
   not-out : slot (r .settings) inService ≡ 1 → contactsAt i .out ≡ false → isOut r (contactsAt i) ≡ false

@@ -23,11 +23,11 @@ use Rattle.drive.specs.declared.Drive.the-variants.{Resting, Asked}
 use Rattle.ways.specs.declared.Way.{Way}
 use Rattle.ways.specs.declared.Way.the-variants.{Neither, To}
 use Rattle.drive.specs.declared.follow.Followed.{Followed}
-use Rattle.drive.specs.Follow.{followOf, restsOf}
+use Rattle.drive.specs.Follow.{restsOf}
 use Rattle.drive.specs.Shown.{onOf}
 use Rattle.ways.specs.Ways.{isTo}
 use Rattle.ways.proofs.Cases.{is-to-self, is-to-is, is-to-neither}
-use Rattle.drive.proofs.Serving.{rest-silent, rest-open, rest-needs-open}
+use Rattle.acting.proofs.EachKind.{rest-silent, rest-free, rest-needs-free}
 use Rattle.input.specs.declared.Input.{Input}
 use Rattle.command.specs.declared.Decided.{Decided}
 use Rattle.command.specs.declared.Wait.{Wait}
@@ -39,25 +39,24 @@ use Rattle.record.specs.Limits.{withinOf}
 use Rattle.record.specs.Starting.{freshOf}
 use Rattle.acting.specs.Commanding.{askOf, situationOf}
 use Rattle.showing.specs.Showing as showing
-use Rattle.acting.specs.Supervising.{contactOf}
 use Rattle.regulator.specs.declared.Ticked.{Ticked}
 use Rattle.regulator.specs.Ticks.{isOut, outOf, tickOf}
 use Rattle.claim.specs.Claim.{commandField, blockField, sideField, modeField, delayTo, waitFor, Begins, Waiting, longest, closed}
 use Rattle.regulator.specs.Lists.{delayIn, heldFor, opening}
 use Rattle.regulator.proofs.Next.{pass}
 use Rattle.regulator.proofs.Shown.{given, contactsAt, supervisedAt, blocksAt, situationAt, decidedAt, liveAt, onTo, live-drive, live-wait, live-on, live-automatic, live-manual, live-opposed, live-level, live-run-away, live-not-started, live-long, live-fast, flag-on, no-field, side-level}
-use Rattle.regulator.proofs.Steps.{tickAt, nextAt, restAt, waitTo, Linked, live-is, out-is, accepted-is, accepted-within, linked-kept, contactAt, followed-is, no-fault-before, blocks-no-fault, blocks-not-local, Live, live-of}
+use Rattle.regulator.proofs.Steps.{tickAt, nextAt, restAt, waitTo, Linked, live-is, out-is, accepted-is, accepted-within, linked-kept, findingAt, clearedAt, followedAt, followed-is, no-fault-before, blocks-no-fault, blocks-not-local, Live, live-of}
 
 -- ---- a command that begins
 
 -- from rest, a command is on only if one was decided
 on-decided : (d : Direction) (r : Regulator) (i : Input) (n : ℕ) → restsOf (r .drive) ≡ true → (w : Way)
-    → onTo d (askOf (supervisedAt r i .drive) w) n ≡ true → w ≡ To d
+    → onTo d (askOf (supervisedAt r i .drive) (contactsAt i .automatic) w) n ≡ true → w ≡ To d
 unfolding askOf onOf
 on-decided d r i n e Neither p =
     absurd
     (false≢true
-    (sym (is-to-neither d) ∙ ap (isTo d) (sym (rest-silent (contactAt r i) (r .drive) n e) ∙ ap (λ (g : Drive). onOf g n) (sym (followed-is r i))) ∙ p))
+    (sym (is-to-neither d) ∙ ap (isTo d) (sym (rest-silent (r .settings) (contactsAt i) (findingAt r i) (r .drive) (clearedAt r i) (r .last) n e) ∙ ap (λ (g : Drive). onOf g n) (sym (followed-is r i))) ∙ p))
 on-decided d r i n e (To f) p = ap To (is-to-is d f p)
 
 pub record Begun (d : Direction) (r : Regulator) (i : Input) : Type 0 where
@@ -90,10 +89,10 @@ module _ (d : Direction) (rest : Bool) (r : Regulator) (i : Input) (k : Linked r
       zero-one : _≡_ {A = ℕ} 0 1 → ⊥
       zero-one z = omega arith
 
-  pub begun-asked : nextAt r i .drive ≡ Asked d 0
+  pub begun-asked : nextAt r i .drive ≡ Asked d 0 (contactsAt i .automatic)
   unfolding askOf
   begun-asked =
-      ap (λ (t : Ticked). t .next .drive) (begun .is) ∙ live-drive r i ∙ ap (askOf (supervisedAt r i .drive)) (begun .command)
+      ap (λ (t : Ticked). t .next .drive) (begun .is) ∙ live-drive r i ∙ ap (askOf (supervisedAt r i .drive) (contactsAt i .automatic)) (begun .command)
 
   pub begun-moves : restAt r i ≡ false
   begun-moves = linked-kept r i (begun .within) ∙ ap restsOf begun-asked
@@ -171,12 +170,11 @@ module _ (d : Direction) (rest : Bool) (r : Regulator) (i : Input) (k : Linked r
   rested : restsOf (r .drive) ≡ true
   rested = sym (k (l .within)) ∙ w .rest
 
-  opened : contactAt r i .closed ≡ false
-  unfolding contactOf
-  opened = w .contact
-
   still : supervisedAt r i .drive ≡ Resting
-  still = followed-is r i ∙ ap (λ (o : Followed). o .drive) (sym (rest-open (contactAt r i) (r .drive) rested opened))
+  still =
+      followed-is r i
+      ∙ ap (λ (o : Followed). o .drive)
+      (sym (rest-free (r .settings) (contactsAt i) (findingAt r i) (r .drive) (clearedAt r i) (r .last) rested (w .contact)))
 
   resting : situationAt r i .resting ≡ true
   unfolding situationOf
@@ -196,7 +194,7 @@ module _ (d : Direction) (rest : Bool) (r : Regulator) (i : Input) (k : Linked r
               fromRest = w .rest;
               on =
                   ap (given (commandField d)) (l .is) ∙ live-on r i d
-                  ∙ ap showing.bitOf (ap (λ (v : Way). onTo d (askOf (supervisedAt r i .drive) v) (slot (r .settings) t7)) c ∙ is-to-self d);
+                  ∙ ap showing.bitOf (ap (λ (v : Way). onTo d (askOf (supervisedAt r i .drive) (contactsAt i .automatic) v) (slot (r .settings) t7)) c ∙ is-to-self d);
             };
         due = h;
       }
@@ -210,7 +208,7 @@ module _ (d : Direction) (rest : Bool) (r : Regulator) (i : Input) (k : Linked r
         more = ap (λ (t : Ticked). waitTo d (t .next)) (l .is) ∙ ap (waitedOf d) (live-wait r i ∙ q) ∙ waited-self d (waitTo d r + 1);
         rests =
             linked-kept r i (l .within)
-            ∙ ap restsOf (ap (λ (t : Ticked). t .next .drive) (l .is) ∙ live-drive r i ∙ ap (askOf (supervisedAt r i .drive)) c ∙ still);
+            ∙ ap restsOf (ap (λ (t : Ticked). t .next .drive) (l .is) ∙ live-drive r i ∙ ap (askOf (supervisedAt r i .drive) (contactsAt i .automatic)) c ∙ still);
       }
 
   pub wait-step : Comes d rest r i ⊎ Goes d rest r i
@@ -236,14 +234,14 @@ in-service s p e = one-left (slot s inService) (in-run s p inService 1 0 1 refl 
 
 module _ (d : Direction) (rest : Bool) (r : Regulator) (i : Input) (k : Linked rest r) (h : withinOf r ≡ true) (o : isOut r (contactsAt i) ≡ false) where
   waits-at : (n : ℕ) → Waits (r .settings) (situationAt r i) (decidedAt r i) d n → Waiting d (tickAt rest r i)
-  unfolding situationOf isOut contactOf
+  unfolding situationOf isOut
   waits-at n q =
       let e = live-is r i h o in
       let f = blocks-no-fault r i (q .mode) in
       let z = no-field (supervisedAt r i .latch .fault) f in
       let b = no-fault-before r i f in
       let was : restsOf (r .drive) ≡ true = and-left _ _ (q .resting) in
-      let now : restsOf (followOf (r .drive) (contactAt r i) .drive) ≡ true =
+      let now : restsOf (followedAt (r .drive) r i .drive) ≡ true =
       ap restsOf (sym (followed-is r i)) ∙ and-right (restsOf (r .drive)) _ (q .resting) in
       record {
         lasting =
@@ -261,7 +259,9 @@ module _ (d : Direction) (rest : Bool) (r : Regulator) (i : Input) (k : Linked r
               noFast = ap (given 22) e ∙ live-fast r i ∙ z .3;
             };
         rest = k h ∙ was;
-        contact = rest-needs-open (contactAt r i) (r .drive) was (blocks-not-local r i (q .mode)) (b .1) (b .0) now;
+        contact =
+            rest-needs-free (r .settings) (contactsAt i) (findingAt r i) (r .drive) (clearedAt r i) (r .last) was (blocks-not-local r i (q .mode))
+            (b .1) (b .0) now;
       }
 
   left-at : (w : Wait) → decidedAt r i .wait ≡ w → Waiting d (tickAt rest r i) ⊎ (waitedOf d w ≡ 0)

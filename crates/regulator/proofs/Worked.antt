@@ -1,15 +1,16 @@
 -- The rules give the worked lists of crate `claim`, tick by tick, and demand 3 is kept of them: each of its hypotheses is met by a list.
 -- Assumes nothing.
 use mathlib.Core.Path.{_≡_, refl, subst}
+use mathlib.Core.Bool.{true}
 use mathlib.Core.List.{List, [], _∷_, _++_}
 use Prim.Native.Nat.{ℕ}
 use lib.Ieee.{ofBits}
 use lib.ListN.{replicate}
 use Rattle.claim.specs.Claim.{Tick, Opening, All, Some, Begins, Command, output, Kept}
-use Rattle.claim.specs.Scenes.{variedSheet, brought}
-use Rattle.claim.proofs.Ticks.{raises, high}
+use Rattle.claim.specs.Scenes.{variedSheet, heldSheet, brought}
+use Rattle.claim.proofs.Ticks.{raises, high, heldLow, heldHigh, closedContact, resetContact}
 use Rattle.claim.proofs.Worked as worked
-use Rattle.claim.proofs.Worked.{freshOpening, waitingOpening, outsideOpening, moveOf, rowT2, servedList, highList, waitingList, outsideList}
+use Rattle.claim.proofs.Worked.{freshOpening, waitingOpening, heldOpening, outsideOpening, moveOf, rowT2, servedList, highList, waitingList, heldRow, heldList, heldBandList, heldHighList, outsideList}
 use Rattle.drive.specs.Follow.{restsOf}
 use Rattle.ways.specs.declared.Direction.the-variants.{Raise, Lower}
 use Rattle.input.specs.declared.Input.{Input}
@@ -27,6 +28,7 @@ use Rattle.sheet.specs.Table as sheet-table
 use Rattle.organ.specs.Limits as organ-limits
 use Rattle.organ.specs.Organs as organ-organs
 use Rattle.drive.specs.Follow as drive-follow
+use Rattle.drive.specs.Hold as drive-hold
 use Rattle.fault.specs.Latches as fault-latches
 use Rattle.drive.specs.Shown as drive-shown
 use Rattle.ways.specs.Ways as ways-ways
@@ -46,6 +48,7 @@ use Rattle.record.specs.Starting as record-starting
 use Rattle.acting.specs.Accounting as acting-accounting
 use Rattle.sensing.specs.Assessing as sensing-assessing
 use Rattle.acting.specs.Commanding as acting-commanding
+use Rattle.acting.specs.Judging as acting-judging
 use Rattle.sensing.specs.Observing as sensing-observing
 use Rattle.sensing.specs.Protecting as sensing-protecting
 use Rattle.showing.specs.Showing as showing
@@ -65,8 +68,22 @@ lowClosed = brought 0x42C4_0000 0x4803
 abbrev highOpen : Input
 highOpen = brought 0x42DE_0000 0x4401
 
+-- with bit 1 set; and with reset
+abbrev bandClosed : Input
+bandClosed = brought 0x42C8_0000 0x4803
+
+abbrev lowReset : Input
+lowReset = brought 0x42C4_0000 0x5803
+
+abbrev highClosed : Input
+highClosed = brought 0x42DE_0000 0x4403
+
 abbrev served : ℕ → ℕ → List Input
 served before hold = inBand ∷ inBand ∷ (replicate 23 lowOpen ++ (replicate before lowOpen ++ (replicate hold lowClosed ++ replicate 26 lowOpen)))
+
+-- held up to the T4th tick after the command's first, and then reset
+abbrev longHeld : List Input
+longHeld = replicate 49 lowClosed ++ replicate 25 lowReset
 
 -- the fresh record, but for its wait and its operations
 abbrev freshBut : Wait → ℕ → Regulator
@@ -89,6 +106,9 @@ freshBut wait operations =
 abbrev fresh : Regulator
 fresh = freshOf variedSheet
 
+abbrev freshHeld : Regulator
+freshHeld = freshOf heldSheet
+
 abbrev waiting : Regulator
 waiting = freshBut (For Raise 10) 0
 
@@ -101,12 +121,16 @@ pub record Given : Type 0 where
   pub high : ticksFrom (restsOf (waiting .drive)) waiting (replicate 21 highOpen) ≡ highList
   pub held : ticksFrom (restsOf (waiting .drive)) waiting (replicate 13 lowOpen) ≡ waitingList
   pub refused : ticksFrom (restsOf (outside .drive)) outside (replicate 3 lowOpen) ≡ outsideList
+  pub long : ticksFrom (restsOf (freshHeld .drive)) freshHeld longHeld ≡ heldList
+  pub band : ticksFrom (restsOf (freshHeld .drive)) freshHeld (replicate 48 lowClosed ++ (bandClosed ∷ [])) ≡ heldBandList
+  pub heldHigh : ticksFrom (restsOf (freshHeld .drive)) freshHeld (replicate 21 highClosed) ≡ heldHighList
   pub onFresh : opening fresh ≡ freshOpening
   pub onWaiting : opening waiting ≡ waitingOpening
+  pub onHeld : opening freshHeld ≡ heldOpening
   pub onOutside : opening outside ≡ outsideOpening
 
 pub given : Given
-unfolding ofBits common-choice.choose common-places.zip measure-readings.goodOf measure-readings.heldOf measure-readings.measuredOf sheet-sheet.firstFrom sheet-sheet.takenIn sheet-sheet.firstOutOfRange sheet-sheet.judgeOf sheet-sheet.passesOf sheet-table.rowIn sheet-table.rowOf sheet-table.moduleFactor sheet-table.factorOf sheet-table.lowOf sheet-table.highOf sheet-table.stepOf sheet-table.takenOf sheet-table.takenBy organ-limits.organWithin common-places.every organ-limits.organsWithin organ-organs.organOf organ-organs.tripOf drive-follow.ownOf drive-follow.restOf drive-follow.askedOf drive-follow.movingOf drive-follow.supervisedOf drive-follow.followOf drive-follow.withinOf fault-latches.resetOf fault-latches.laterOf fault-latches.ageOf fault-latches.latchedOf drive-shown.onOf ways-ways.newerOf input-brought.readingsOf tap-counted.upOf tap-counted.downOf tap-counted.stepOf tap-counted.movedOf tap-counted.countedOf tap-positions.rangedOf tap-positions.bcdOf tap-positions.positionOf tap-sliding.standsIn tap-sliding.slidingOf blocks-blocked.endOf blocks-blocked.organsAutomaticOf blocks-blocked.anyTripOf blocks-blocked.tapLostOf blocks-blocked.blocksOf busbar-deviation.supplyOf busbar-deviation.lowOf busbar-deviation.highOf busbar-deviation.bandOf busbar-deviation.levelOf busbar-deviation.farAbove busbar-section.sectionOf busbar-voltage.goodOf busbar-voltage.both busbar-voltage.currentOf busbar-voltage.dropOf busbar-voltage.voltageDrop busbar-voltage.voltageOf command-automatic.ticksOf command-automatic.waitedOf command-automatic.delayOf command-automatic.waitOnOf command-automatic.towardOf command-automatic.sidedOf command-automatic.keptOf command-automatic.repeatOf command-deciding.decidedOf command-manual.pressedOf command-manual.manualOf record-limits.ticksOf record-limits.delaysOf record-limits.motionWithin record-limits.countsWithin record-limits.withinOf record-starting.freshOf acting-accounting.oneMoreOf acting-accounting.operationsOf acting-accounting.accountedOf sensing-assessing.uOf sensing-assessing.assessedOf acting-commanding.sideOf acting-commanding.blockedOf acting-commanding.askOf acting-commanding.situationOf acting-commanding.decisionOf acting-commanding.regulatedOf sensing-observing.observedOf sensing-protecting.amountOf sensing-protecting.organInputOf sensing-protecting.organInputsOf sensing-protecting.protectedOf showing.countedOf showing.signalsOf showing.fieldsOf showing.outputsOf acting-supervising.contactOf acting-supervising.clearedOf acting-supervising.followedOf acting-supervising.supervisedOf regulator-ticks.observedIn regulator-ticks.protectedIn regulator-ticks.assessedIn regulator-ticks.sensedOf regulator-ticks.supervisedIn regulator-ticks.blockedIn regulator-ticks.regulatedIn regulator-ticks.accountedIn regulator-ticks.actedOf regulator-ticks.nextOf regulator-ticks.endOf regulator-ticks.ranOf regulator-ticks.isOut regulator-ticks.outOf regulator-ticks.refusedOf regulator-ticks.tickOf
+unfolding ofBits common-choice.choose common-places.zip measure-readings.goodOf measure-readings.heldOf measure-readings.measuredOf sheet-sheet.firstFrom sheet-sheet.takenIn sheet-sheet.firstOutOfRange sheet-sheet.judgeOf sheet-sheet.passesOf sheet-table.rowIn sheet-table.rowOf sheet-table.moduleFactor sheet-table.factorOf sheet-table.lowOf sheet-table.highOf sheet-table.stepOf sheet-table.takenOf sheet-table.takenBy organ-limits.organWithin common-places.every organ-limits.organsWithin organ-organs.organOf organ-organs.tripOf drive-follow.ownOf drive-follow.restOf drive-follow.askedOf drive-follow.movingOf drive-follow.supervisedOf drive-follow.followOf drive-follow.withinOf drive-hold.endsOf drive-hold.automaticOf drive-hold.manualOf drive-hold.kindOf drive-hold.holdOf drive-hold.withinOf fault-latches.resetOf fault-latches.laterOf fault-latches.ageOf fault-latches.latchedOf drive-shown.onOf ways-ways.newerOf input-brought.readingsOf tap-counted.upOf tap-counted.downOf tap-counted.stepOf tap-counted.movedOf tap-counted.countedOf tap-positions.rangedOf tap-positions.bcdOf tap-positions.positionOf tap-sliding.standsIn tap-sliding.slidingOf blocks-blocked.endOf blocks-blocked.organsAutomaticOf blocks-blocked.anyTripOf blocks-blocked.tapLostOf blocks-blocked.blocksOf busbar-deviation.supplyOf busbar-deviation.lowOf busbar-deviation.highOf busbar-deviation.bandOf busbar-deviation.levelOf busbar-deviation.farAbove busbar-section.sectionOf busbar-voltage.goodOf busbar-voltage.both busbar-voltage.currentOf busbar-voltage.dropOf busbar-voltage.voltageDrop busbar-voltage.voltageOf command-automatic.ticksOf command-automatic.waitedOf command-automatic.delayOf command-automatic.waitOnOf command-automatic.towardOf command-automatic.sidedOf command-automatic.keptOf command-automatic.repeatOf command-deciding.decidedOf command-manual.pressedOf command-manual.manualOf record-limits.ticksOf record-limits.delaysOf record-limits.kindWithin record-limits.motionWithin record-limits.countsWithin record-limits.withinOf record-starting.freshOf acting-accounting.oneMoreOf acting-accounting.operationsOf acting-accounting.accountedOf sensing-assessing.uOf sensing-assessing.assessedOf acting-judging.sideOf acting-judging.blockedOf acting-commanding.askOf acting-commanding.situationOf acting-commanding.decisionOf acting-commanding.regulatedOf sensing-observing.observedOf sensing-protecting.amountOf sensing-protecting.organInputOf sensing-protecting.organInputsOf sensing-protecting.protectedOf showing.countedOf showing.signalsOf showing.fieldsOf showing.outputsOf acting-supervising.contactOf acting-supervising.holdingOf acting-supervising.clearedOf acting-supervising.followedOf acting-supervising.supervisedOf regulator-ticks.observedIn regulator-ticks.protectedIn regulator-ticks.assessedIn regulator-ticks.sensedOf regulator-ticks.supervisedIn regulator-ticks.blockedIn regulator-ticks.regulatedIn regulator-ticks.accountedIn regulator-ticks.actedOf regulator-ticks.nextOf regulator-ticks.endOf regulator-ticks.ranOf regulator-ticks.isOut regulator-ticks.outOf regulator-ticks.refusedOf regulator-ticks.tickOf
 given =
     record {
       early = refl;
@@ -114,8 +138,12 @@ given =
       high = refl;
       held = refl;
       refused = refl;
+      long = refl;
+      band = refl;
+      heldHigh = refl;
       onFresh = refl;
       onWaiting = refl;
+      onHeld = refl;
       onOutside = refl;
     }
 
@@ -124,7 +152,11 @@ given =
 kept-of : (r : Regulator) (is : List Input) {o : Opening} {l : List Tick} → opening r ≡ o → ticksFrom (restsOf (r .drive)) r is ≡ l → Kept o l
 kept-of r is {o} {l} p q = subst (λ (x : Opening). Kept x l) p (subst (Kept (opening r)) q (kept r is))
 
--- a row after no waiting ticks, a row under T2, the longest delay, a row under T3, a served command, a wait held before, refusals
+kept-held : (is : List Input) {l : List Tick} → ticksFrom (restsOf (freshHeld .drive)) freshHeld is ≡ l → Kept heldOpening l
+kept-held is q = kept-of freshHeld is (given .onHeld) q
+
+-- a row after no waiting ticks, a row under T2, the longest delay, a row under T3, a served command, a wait held before; without a
+-- switching contact a row on its bound, one after 'long' and reset, one under T3; refusals
 pub record Met : Type 0 where
   pub afterBand : Begins Raise (raises 23)
   pub underT2 : Begins Raise (raises 25)
@@ -132,6 +164,10 @@ pub record Met : Type 0 where
   pub again : Some Command (moveOf 21 24 ++ rowT2)
   pub underT3 : Begins Lower (high 1 1)
   pub unblocked : (output 13 (raises 23) ≡ 0) × (output 15 (raises 23) ≡ 0)
+  pub heldLatest : Some (Begins Raise) (heldRow closedContact)
+  pub heldExactly : Begins Raise (heldLow true closedContact 1 1)
+  pub heldAgain : Begins Raise (heldLow true resetContact 1 1)
+  pub heldUnderT3 : Begins Lower (heldHigh 1 1)
   pub refused : All (λ t. t .refusal ≡ 4) outsideList
 
 pub met : Met
@@ -143,5 +179,9 @@ met =
       again = worked.again (kept-of fresh (served 21 24) (given .onFresh) (given .bound));
       underT3 = worked.under-t3 (kept-of waiting (replicate 21 highOpen) (given .onWaiting) (given .high));
       unblocked = worked.unblocked (kept-of waiting (replicate 13 lowOpen) (given .onWaiting) (given .held));
+      heldLatest = worked.held-latest (kept-held longHeld (given .long));
+      heldExactly = worked.held-exactly (kept-held longHeld (given .long));
+      heldAgain = worked.held-again (kept-held longHeld (given .long));
+      heldUnderT3 = worked.held-under-t3 (kept-held (replicate 21 highClosed) (given .heldHigh));
       refused = worked.refused (kept-of outside (replicate 3 lowOpen) (given .onOutside) (given .refused));
     }

@@ -16,6 +16,7 @@ use Rattle.record.specs.Limits.{withinOf}
 use Rattle.record.specs.Starting.{freshOf}
 use Rattle.acting.specs.declared.accounting.Accounted.{Accounted}
 use Rattle.sensing.specs.declared.assessing.Assessed.{Assessed}
+use Rattle.acting.specs.declared.judging.Finding.{Finding}
 use Rattle.acting.specs.declared.commanding.Memory.{Memory}
 use Rattle.acting.specs.declared.commanding.Regulated.{Regulated}
 use Rattle.sensing.specs.declared.observing.Observed.{Observed}
@@ -25,7 +26,8 @@ use Rattle.sensing.specs.Observing.{observedOf}
 use Rattle.sensing.specs.Protecting.{protectedOf}
 use Rattle.sensing.specs.Assessing.{assessedOf}
 use Rattle.acting.specs.Supervising.{supervisedOf}
-use Rattle.acting.specs.Commanding.{blockedOf, regulatedOf}
+use Rattle.acting.specs.Judging.{blockedOf}
+use Rattle.acting.specs.Commanding.{regulatedOf}
 use Rattle.acting.specs.Accounting.{accountedOf}
 use Rattle.showing.specs.Showing.{fieldCount, outputsOf}
 use Rattle.regulator.specs.declared.Acted.{Acted}
@@ -56,14 +58,17 @@ sensedOf r i c =
 
 -- ---- rules 2 and 7 to 9: what is done
 
+-- what rules 7 and 8 go by of the rules before
+abbrev pub findingOf : Sensed → Finding
+findingOf x = record { section = x .observed .section; level = x .assessed .level; trips = x .organs .trips; tap = x .observed .position .tap }
+
 -- rules 2 and 7: the drive and its faults
 unfoldable pub supervisedIn : Regulator → Contacts → Sensed → Supervised
-supervisedIn r c x = supervisedOf (r .settings) c (x .observed .position .tap) (r .drive) (r .latch) (r .last)
+supervisedIn r c x = supervisedOf (r .settings) c (findingOf x) (r .drive) (r .latch) (r .last)
 
 -- rule 8: the blocks
 unfoldable pub blockedIn : Regulator → Contacts → Sensed → Supervised → Blocks
-blockedIn r c x v =
-    blockedOf (r .settings) c (v .latch .fault) (x .observed .section) (x .assessed .level) (x .organs .trips) (x .observed .position .tap)
+blockedIn r c x v = blockedOf (r .settings) c (v .latch .fault) (findingOf x)
 
 -- what rule 9 remembers
 abbrev pub memoryOf : Regulator → Memory
@@ -75,7 +80,7 @@ regulatedIn r c x v = regulatedOf (r .settings) c (x .assessed) (blockedIn r c x
 
 -- rule 7, at tick end: what an ended move leaves
 unfoldable pub accountedIn : Regulator → Supervised → Accounted
-accountedIn r v = accountedOf (r .settings) (v .ended) (r .last) (r .operations) (r .«counted_tap»)
+accountedIn r v = accountedOf (r .settings) (v .ended) (v .operation) (r .last) (r .operations) (r .«counted_tap»)
 
 unfoldable pub actedOf : Regulator → Contacts → Sensed → Acted
 actedOf r c x =

@@ -4,10 +4,11 @@ ghost use mathlib.Core.List.{List};
 ghost use Rattle.record.specs.Limits.{withinOf};
 ghost use Rattle.claim.specs.Claim.{Kept};
 ghost use Rattle.regulator.specs.Lists.{listFrom, opening};
-ghost use Rattle.regulator.specs.Ticks.{sensedOf, memoryOf, actedOf, shownOf, nextOf, ranOf, outOf, refusedOf, tickOf};
+ghost use Rattle.regulator.specs.Ticks.{sensedOf, findingOf, memoryOf, actedOf, shownOf, nextOf, ranOf, outOf, refusedOf, tickOf};
 use acting::accounting::Accounted;
 use acting::commanding::Memory;
 use acting::commanding::Regulated;
+use acting::judging::Finding;
 use acting::supervising::Supervised;
 use blocks::Blocks;
 use command::Buttons;
@@ -69,6 +70,24 @@ fn sense(r: Regulator, i: Input, c: Contacts) -> Sensed
     }
 }
 
+// What rules 7 and 8 go by of the rules before.
+fn finding_of(x: Sensed) -> Finding
+    ensures { λ f. ⌜ f ≡ findingOf x ⌝ }
+{
+    let observed = x.observed;
+    let position = observed.position;
+    let organs = x.organs;
+    let trips = organs.trips;
+    let assessed = x.assessed;
+    let level = assessed.level;
+    Finding {
+        section: observed.section,
+        level: level,
+        trips: trips,
+        tap: position.tap,
+    }
+}
+
 // What rule 9 remembers.
 fn memory_of(r: Regulator) -> Memory
     ensures { λ m. ⌜ m ≡ memoryOf r ⌝ }
@@ -93,29 +112,24 @@ fn act(r: Regulator, c: Contacts, x: Sensed) -> Acted
     let drive = r.drive;
     let latch = r.latch;
     let last = r.last;
-    let observed = x.observed;
-    let position = observed.position;
-    let organs = x.organs;
-    let trips = organs.trips;
     let assessed = x.assessed;
-    let level = assessed.level;
-    let supervised = acting::supervising::supervise(&s, c, position.tap, drive, latch, last);
+    let found = finding_of(x);
+    let supervised = acting::supervising::supervise(&s, c, found, drive, latch, last);
     let latched = supervised.latch;
     let fault = latched.fault;
-    let blocks = acting::commanding::block(
-        &s,
-        c,
-        fault,
-        observed.section,
-        level,
-        trips,
-        position.tap,
-    );
+    let blocks = acting::judging::block(&s, c, fault, found);
     let m = memory_of(r);
     let followed = supervised.drive;
     let regulated = acting::commanding::regulate(&s, c, assessed, blocks, m, followed);
     let ended = supervised.ended;
-    let accounted = acting::accounting::account(&s, ended, last, r.operations, r.counted_tap);
+    let accounted = acting::accounting::account(
+        &s,
+        ended,
+        supervised.operation,
+        last,
+        r.operations,
+        r.counted_tap,
+    );
     Acted {
         supervised: supervised,
         blocks: blocks,

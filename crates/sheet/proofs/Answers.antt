@@ -12,9 +12,9 @@ use Rattle.common.specs.Choice.{choose}
 use Rattle.common.proofs.Cases.{yes, no}
 use Rattle.slots.specs.Slots.{slot, nPos, nR, nL, slots}
 use Rattle.sheet.specs.Table.{takenBy}
-use Rattle.sheet.specs.Sheet.{isTaken, firstOutOfRange, wrongLength, outOfRange, endsCrossed, posOutside, judgeOf, passesOf, answerOf, zeros, sheetWith, sheetOf, replyOf, returnedOf}
+use Rattle.sheet.specs.Sheet.{isTaken, firstOutOfRange, wrongLength, outOfRange, endsCrossed, posOutside, countedTap, judgeOf, passesOf, answerOf, zeros, sheetWith, sheetOf, replyOf, returnedOf}
 use Rattle.sheet.specs.declared.Answer.{Answer}
-use Rattle.sheet.specs.declared.Answer.the-variants.{Taken, WrongLength, OutOfRange, TapOrder}
+use Rattle.sheet.specs.declared.Answer.the-variants.{Taken, WrongLength, OutOfRange, TapOrder, CountedTap}
 use Rattle.sheet.specs.declared.Sheet.{Sheet}
 
 -- a number against a range
@@ -67,9 +67,14 @@ module _ (s : List ℕ) {n : ℕ} (p : n ≡ firstOutOfRange s) where
   unfolding judgeOf
   pos-refused h c e = rw (← p) (no _ _ _ _ (le-ltb _ _ h) (no _ _ _ _ (lt-leb _ _ c) (yes _ _ _ _ (ap not e) refl)))
 
-  pub not-refused : slots ≤ n → slot s nL < slot s nR → within s ≡ true → Taken ≡ judgeOf s
-  unfolding judgeOf
-  not-refused h c e = rw (← p) (no _ _ _ _ (le-ltb _ _ h) (no _ _ _ _ (lt-leb _ _ c) (no _ _ _ _ (ap not e) refl)))
+  module _ (h : slots ≤ n) (c : slot s nL < slot s nR) (e : within s ≡ true) where
+    pub count-refused : countedTap s ≡ true → CountedTap ≡ judgeOf s
+    unfolding judgeOf
+    count-refused d = rw (← p) (no _ _ _ _ (le-ltb _ _ h) (no _ _ _ _ (lt-leb _ _ c) (no _ _ _ _ (ap not e) (yes _ _ _ _ d refl))))
+
+    pub not-refused : countedTap s ≡ false → Taken ≡ judgeOf s
+    unfolding judgeOf
+    not-refused d = rw (← p) (no _ _ _ _ (le-ltb _ _ h) (no _ _ _ _ (lt-leb _ _ c) (no _ _ _ _ (ap not e) (no _ _ _ _ d refl))))
 
 pub passes-told : (s : List ℕ) {a : Answer} {t : Bool} → a ≡ judgeOf s → t ≡ isTaken a → t ≡ passesOf s
 unfolding passesOf
@@ -94,16 +99,17 @@ module _ (s : List ℕ) where
   right-length h p q e = let z : answerOf s ≡ judgeOf s = answer-right h in cc
 
 -- the sheet says what the paper's table returns
-by-cause : (a b c d : Bool) (n : ℕ) (s : List ℕ)
-    → replyOf (sheetWith (choose a WrongLength (choose b (OutOfRange n) (choose c (TapOrder 49) (choose d (TapOrder 48) Taken)))) s)
-    ≡ choose a (record { number = 1; slot = 0; settings = zeros }) (choose b (record { number = 2; slot = n; settings = zeros }) (choose c (record { number = 3; slot = 49; settings = zeros }) (choose d (record { number = 3; slot = 48; settings = zeros }) (record { number = 0; slot = 0; settings = s }))))
+by-cause : (a b c d e : Bool) (n : ℕ) (s : List ℕ)
+    → replyOf (sheetWith (choose a WrongLength (choose b (OutOfRange n) (choose c (TapOrder 49) (choose d (TapOrder 48) (choose e CountedTap Taken))))) s)
+    ≡ choose a (record { number = 1; slot = 0; settings = zeros }) (choose b (record { number = 2; slot = n; settings = zeros }) (choose c (record { number = 3; slot = 49; settings = zeros }) (choose d (record { number = 3; slot = 48; settings = zeros }) (choose e (record { number = 5; slot = 63; settings = zeros }) (record { number = 0; slot = 0; settings = s })))))
 unfolding sheetWith choose
-by-cause true b c d n s = refl
-by-cause false true c d n s = refl
-by-cause false false true d n s = refl
-by-cause false false false true n s = refl
-by-cause false false false false n s = refl
+by-cause true b c d e n s = refl
+by-cause false true c d e n s = refl
+by-cause false false true d e n s = refl
+by-cause false false false true e n s = refl
+by-cause false false false false true n s = refl
+by-cause false false false false false n s = refl
 
 pub returned : (s : List ℕ) → replyOf (sheetOf s) ≡ returnedOf s
 unfolding sheetOf answerOf judgeOf returnedOf
-returned s = by-cause (wrongLength s) (outOfRange s) (endsCrossed s) (posOutside s) (firstOutOfRange s) s
+returned s = by-cause (wrongLength s) (outOfRange s) (endsCrossed s) (posOutside s) (countedTap s) (firstOutOfRange s) s

@@ -14,7 +14,7 @@ use Rattle.slots.specs.Slots.{slot, t1, t2, t3, t4, t5, t6, t7, t8, organDelays
 use Rattle.sheet.specs.Table.{rowOf, rowIn, moduleFactor, factorOf, lowOf, highOf, takenOf, takenBy}
 use Rattle.sheet.specs.Sheet.{isTaken, takenIn, judgeOf, passesOf, answerOf}
 use Rattle.sheet.specs.declared.Answer.{Answer}
-use Rattle.sheet.specs.declared.Answer.the-variants.{Taken, WrongLength, OutOfRange, TapOrder}
+use Rattle.sheet.specs.declared.Answer.the-variants.{Taken, WrongLength, OutOfRange, TapOrder, CountedTap}
 use Rattle.common.proofs.Joined.{and-left, and-right}
 use Rattle.sheet.proofs.Every.{allBelow, every}
 use Rattle.sheet.proofs.Exact.{Kept, judged-kept, exact}
@@ -25,6 +25,7 @@ is-taken Taken e = refl
 is-taken WrongLength e = absurd (let z : _≡_ {A = ℕ} 0 1 = cc in omega arith)
 is-taken (OutOfRange i) e = absurd (let z : _≡_ {A = ℕ} 0 1 = cc in omega arith)
 is-taken (TapOrder i) e = absurd (let z : _≡_ {A = ℕ} 0 1 = cc in omega arith)
+is-taken CountedTap e = absurd (let z : _≡_ {A = ℕ} 0 1 = cc in omega arith)
 
 -- to pass is to be judged as taken, and a list that is taken passes
 module _ (s : List ℕ) where

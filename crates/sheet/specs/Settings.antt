@@ -2,8 +2,9 @@
 use Prim.Native.Nat.{ℕ, _<_, _≤_}
 use mathlib.Core.Path.{_≡_}
 use mathlib.Core.List.{List}
+use mathlib.Core.Logic.{_⊎_}
 use lib.ListN.{length}
-use Rattle.slots.specs.Slots.{slot, slots, nPos, nR, nL}
+use Rattle.slots.specs.Slots.{slot, slots, tapSource, nPos, nR, nL, continuous}
 use Rattle.sheet.specs.Table.{Taking, moduleFactor}
 
 pub record Settings (s : List ℕ) : Type 0 where
@@ -12,3 +13,5 @@ pub record Settings (s : List ℕ) : Type 0 where
   pub ends : slot s nL < slot s nR
   pub above : slot s nL ≤ slot s nPos
   pub below : slot s nPos ≤ slot s nR
+  -- 02, ticket 2: "the settings taken are then exactly those that pass it as well"
+  pub counted : slot s continuous ≡ 1 → (slot s tapSource ≡ 3) ⊎ (slot s tapSource ≡ 4) → ⊥

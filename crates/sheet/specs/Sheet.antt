@@ -1,14 +1,14 @@
--- What the check of a list answers: the paper's table of refusals.
+-- What the check of a list answers: the paper's table of refusals, with 5 of 02, ticket 2.
 use Prim.Native.Nat.{ℕ, zero, suc}
-use mathlib.Core.Bool.{Bool, true, false, not, _&&_}
+use mathlib.Core.Bool.{Bool, true, false, not, _&&_, _||_}
 use mathlib.Core.List.{List, [], _∷_}
 use lib.Dec.{leb, ltb, eqb}
 use lib.ListN.{length, replicate}
 use Rattle.common.specs.Choice.{choose}
-use Rattle.slots.specs.Slots.{slot, slots, nPos, nR, nL}
+use Rattle.slots.specs.Slots.{slot, slots, tapSource, nPos, nR, nL, continuous, isContinuous}
 use Rattle.sheet.specs.Table.{takenOf, moduleFactor}
 use Rattle.sheet.specs.declared.Answer.{Answer}
-use Rattle.sheet.specs.declared.Answer.the-variants.{Taken, WrongLength, OutOfRange, TapOrder}
+use Rattle.sheet.specs.declared.Answer.the-variants.{Taken, WrongLength, OutOfRange, TapOrder, CountedTap}
 use Rattle.sheet.specs.declared.Sheet.{Sheet}
 
 -- the paper's number of an answer, 0 for a list that is taken
@@ -17,6 +17,7 @@ numberOf Taken = 0
 numberOf WrongLength = 1
 numberOf (OutOfRange i) = 2
 numberOf (TapOrder i) = 3
+numberOf CountedTap = 5
 
 -- the slot that the paper returns with it
 abbrev pub slotOf : Answer → ℕ
@@ -24,12 +25,14 @@ slotOf Taken = 0
 slotOf WrongLength = 0
 slotOf (OutOfRange i) = i
 slotOf (TapOrder i) = i
+slotOf CountedTap = continuous
 
 abbrev pub isTaken : Answer → Bool
 isTaken Taken = true
 isTaken WrongLength = false
 isTaken (OutOfRange i) = false
 isTaken (TapOrder i) = false
+isTaken CountedTap = false
 
 -- the lowest of the n numbers from i at which the test fails; i + n where it never does
 unfoldable pub firstFrom : (ℕ → Bool) → ℕ → ℕ → ℕ
@@ -45,7 +48,7 @@ unfoldable pub firstOutOfRange : List ℕ → ℕ
 firstOutOfRange s = firstFrom (takenIn s) slots 0
 
 -- the causes, as the paper's table has them
--- 'list not 63 long'
+-- 'list not 63 long'; 02, ticket 2: 'the sheet is 64 long'
 abbrev pub wrongLength : List ℕ → Bool
 wrongLength s = not (eqb (length s) slots)
 
@@ -60,6 +63,10 @@ endsCrossed s = leb (slot s nR) (slot s nL)
 -- 'N_pos outside N_L–N_R'
 abbrev pub posOutside : List ℕ → Bool
 posOutside s = not (leb (slot s nL) (slot s nPos) && leb (slot s nPos) (slot s nR))
+
+-- 02, ticket 2: 'slot 63 is 1 and slot 5 is 3 or 4'
+abbrev pub countedTap : List ℕ → Bool
+countedTap s = isContinuous s && (eqb (slot s tapSource) 3 || eqb (slot s tapSource) 4)
 
 -- a cause, and what is answered to it
 pub record Refusal (A : Type 0) : Type 0 where
@@ -81,6 +88,7 @@ judgeOf s =
     (to (outOfRange s) (OutOfRange (firstOutOfRange s)) ∷
     to (endsCrossed s) (TapOrder nR) ∷
     to (posOutside s) (TapOrder nPos) ∷
+    to (countedTap s) CountedTap ∷
     [])
     Taken
 
@@ -123,5 +131,6 @@ returnedOf s =
     to (outOfRange s) (reply 2 (firstOutOfRange s) zeros) ∷
     to (endsCrossed s) (reply 3 49 zeros) ∷
     to (posOutside s) (reply 3 48 zeros) ∷
+    to (countedTap s) (reply 5 63 zeros) ∷
     [])
     (reply 0 0 s)

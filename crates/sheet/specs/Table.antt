@@ -81,6 +81,8 @@ rows =
     row 52 52 1 500000 1 ∷
     -- sliding taps
     row 53 62 0 40 1 ∷
+    -- 02, ticket 2: continuous regulation
+    row 63 63 0 1 1 ∷
     []
 
 -- the row that has the slot; 0–0 for what is no slot

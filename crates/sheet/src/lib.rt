@@ -1,9 +1,11 @@
-// The setting sheet: a list of numbers, each checked against its range, and then the order of the taps.
+// The setting sheet: a list of numbers, each checked against its range, then the order of the taps, and then whether the taps
+// can be counted.
 mod ranges;
 
 use ranges::HIGH;
 use ranges::LOW;
 use ranges::STEP;
+use slots::CONTINUOUS;
 use slots::I_SET1;
 use slots::I_SET2;
 use slots::I_SET3;
@@ -12,6 +14,7 @@ use slots::N_L;
 use slots::N_POS;
 use slots::N_R;
 use slots::SLOTS;
+use slots::TAP_SOURCE;
 ghost use mathlib.Core.Path.{_≡_};
 ghost use mathlib.Core.Logic.{_↔_};
 ghost use Prim.Native.Nat.{_≤_};
@@ -30,6 +33,8 @@ pub enum Answer {
     WrongLength,
     OutOfRange { slot: u32 },
     TapOrder { slot: u32 },
+    // The taps are to be counted without the contact that tells of a move.
+    CountedTap,
 }
 
 // The answer, with the list where it is taken, and zeros elsewhere.
@@ -101,6 +106,8 @@ fn judge(s: &[u32; SLOTS]) -> Answer
     let right = s[N_R];
     let left = s[N_L];
     let pos = s[N_POS];
+    let source = s[TAP_SOURCE];
+    let continuous = s[CONTINUOUS] == 1;
     if first < SLOTS {
         let slot = first as u32;
         return Answer::OutOfRange { slot };
@@ -110,6 +117,9 @@ fn judge(s: &[u32; SLOTS]) -> Answer
         return Answer::TapOrder { slot };
     }
     if (left <= pos) & (pos <= right) {
+        if continuous & ((source == 3) | (source == 4)) {
+            return Answer::CountedTap;
+        }
         return Answer::Taken;
     }
     let slot = N_POS as u32;
@@ -124,6 +134,7 @@ pub fn taken(a: Answer) -> bool
         Answer::WrongLength => false,
         Answer::OutOfRange { slot: _ } => false,
         Answer::TapOrder { slot: _ } => false,
+        Answer::CountedTap => false,
     }
 }
 
@@ -143,6 +154,7 @@ pub fn number(a: Answer) -> u32
         Answer::WrongLength => 1,
         Answer::OutOfRange { slot: _ } => 2,
         Answer::TapOrder { slot: _ } => 3,
+        Answer::CountedTap => 5,
     }
 }
 
@@ -155,6 +167,7 @@ pub fn slot(a: Answer) -> u32
         Answer::WrongLength => 0,
         Answer::OutOfRange { slot } => slot,
         Answer::TapOrder { slot } => slot,
+        Answer::CountedTap => CONTINUOUS as u32,
     }
 }
 

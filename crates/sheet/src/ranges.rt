@@ -66,6 +66,7 @@ pub const LOW: [u32; SLOTS] = [
     0, // 60 sliding tap 8
     0, // 61 sliding tap 9
     0, // 62 sliding tap 10
+    0, // 63 continuous regulation
 ];
 
 pub const HIGH: [u32; SLOTS] = [
@@ -132,6 +133,7 @@ pub const HIGH: [u32; SLOTS] = [
     40, // 60 sliding tap 8
     40, // 61 sliding tap 9
     40, // 62 sliding tap 10
+    1, // 63 continuous regulation
 ];
 
 pub const STEP: [u32; SLOTS] = [
@@ -198,4 +200,5 @@ pub const STEP: [u32; SLOTS] = [
     1, // 60 sliding tap 8
     1, // 61 sliding tap 9
     1, // 62 sliding tap 10
+    1, // 63 continuous regulation
 ];

@@ -1,6 +1,8 @@
 -- The paper's slots of the setting sheet, by name. A run of slots has the name of its first. The code has the same names.
 use Prim.Native.Nat.{ℕ}
+use mathlib.Core.Bool.{Bool}
 use mathlib.Core.List.{List}
+use lib.Dec.{eqb}
 use lib.ListN.{getD}
 
 -- the number at a slot
@@ -9,7 +11,7 @@ slot s i = getD s i 0
 
 -- how many slots there are
 abbrev pub slots : ℕ
-slots = 63
+slots = 64
 
 abbrev pub inService : ℕ
 inService = 0
@@ -124,3 +126,10 @@ nMax = 52
 -- ten
 abbrev pub slidingTaps : ℕ
 slidingTaps = 53
+
+-- 02, ticket 2: "slot 63 .. chooses continuous regulation", for a drive without a switching contact
+abbrev pub continuous : ℕ
+continuous = 63
+
+abbrev pub isContinuous : List ℕ → Bool
+isContinuous s = eqb (slot s continuous) 1

@@ -12,5 +12,6 @@ fn main() {
     sheets::print_lengths();
     sheets::print_slots(b"slot ", sheets::BASE);
     sheets::print_slots(b"slot5 ", sheets::base_5a());
+    sheets::print_slots(b"continuous ", sheets::base_continuous());
     bcd::print_codes();
 }

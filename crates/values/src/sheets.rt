@@ -2,10 +2,12 @@
 // set to each of a row of numbers.
 use crate::print;
 use crate::sum;
+use slots::CONTINUOUS;
 use slots::I_SET3;
 use slots::MODULE;
 use slots::ORGAN_LIMITS;
 use slots::SLOTS;
+use slots::TAP_SOURCE;
 ghost use Rattle.slots.specs.Slots.{slots};
 ghost use Prim.Native.Nat.{_<_};
 
@@ -64,6 +66,7 @@ pub const BASE: [u32; SLOTS] = [
     1,
     0,
     100_000,
+    0,
     0,
     0,
     0,
@@ -138,6 +141,15 @@ pub(crate) fn base_5a() -> [u32; SLOTS] {
     list[ORGAN_LIMITS] = 5_000;
     list[ORGAN_LIMITS + 1] = 5_000;
     list[I_SET3] = 500;
+    list
+}
+
+// The sheet for a drive without a switching contact, with a counted tap. It is refused with 5, where no other refusal comes
+// first.
+pub(crate) fn base_continuous() -> [u32; SLOTS] {
+    let mut list = BASE;
+    list[CONTINUOUS] = 1;
+    list[TAP_SOURCE] = 3;
     list
 }
 

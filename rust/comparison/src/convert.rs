@@ -38,7 +38,7 @@ pub fn image_of(record: &Record) -> Image {
 fn drive_image(drive: Drive) -> DriveImage {
     let (kind, direction, ticks) = match drive {
         Drive::Rest => (0, Direction::Raise, 0),
-        Drive::Asked { direction, age } => (1, direction, age),
+        Drive::Asked { direction, age, automatic } => (if automatic { 1 } else { 4 }, direction, age),
         Drive::Moving { direction, length, commanded } => (if commanded { 2 } else { 3 }, direction, length),
     };
     DriveImage { kind, direction: u32::from(direction == Direction::Lower), ticks }
@@ -92,7 +92,7 @@ fn drive_of(image: DriveImage) -> Option<Drive> {
     let ticks = image.ticks;
     match image.kind {
         0 if image.direction == 0 && ticks == 0 => Some(Drive::Rest),
-        1 => Some(Drive::Asked { direction, age: ticks }),
+        1 | 4 => Some(Drive::Asked { direction, age: ticks, automatic: image.kind == 1 }),
         2 | 3 => Some(Drive::Moving { direction, length: ticks, commanded: image.kind == 2 }),
         _ => None,
     }

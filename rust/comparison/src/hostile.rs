@@ -58,13 +58,12 @@ fn drive_and_wait(dice: &mut Dice, settings: &Settings, image: &mut Image) {
 }
 
 fn drive(dice: &mut Dice, settings: &Settings) -> DriveImage {
-    let kind = dice.between(0, 3);
-    let bound = match kind {
-        0 => return DriveImage { kind, direction: 0, ticks: 0 },
-        1 => settings[slot::T5],
-        _ => settings[slot::T4],
-    };
+    let kind = dice.between(0, 4);
+    if kind == 0 {
+        return DriveImage { kind, direction: 0, ticks: 0 };
+    }
     let direction = dice.between(0, 1);
+    let bound = dice.pick(&[settings[slot::T4], settings[slot::T5]]);
     let ticks = dice.pick(&[0, 1, bound.wrapping_sub(1), bound, bound.wrapping_add(1)]);
     DriveImage { kind, direction, ticks }
 }

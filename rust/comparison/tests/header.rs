@@ -218,7 +218,7 @@ fn arms(path: &str, function: &str) -> Vec<(String, usize)> {
 fn faults_and_refusals_have_the_librarys_numbers() {
     let header = read("c/avr.h");
     let faults = ["AVR_FAULT_NONE", "AVR_FAULT_RUN_AWAY", "AVR_FAULT_NOT_STARTED", "AVR_FAULT_LONG", "AVR_FAULT_FAST"];
-    let answers = ["AVR_ACCEPTED", "AVR_REFUSED_LENGTH", "AVR_REFUSED_RANGE", "AVR_REFUSED_TAP_ORDER"];
+    let answers = ["AVR_ACCEPTED", "AVR_REFUSED_LENGTH", "AVR_REFUSED_RANGE", "AVR_REFUSED_TAP_ORDER", "AVR_REFUSED_COUNTED"];
     let enums = [
         ("avr_fault", arms("crates/coding/src/lib.rt", "fault_number"), &faults[..]),
         ("avr_answer", arms("crates/sheet/src/lib.rt", "number"), &answers[..]),

@@ -88,6 +88,12 @@ fn drives_directions_and_ways() {
     unit.moved(98.0, 1);
     unit.hold(unit.image.drive.kind, "AVR_DRIVE_OWN_MOVE");
     unit = Unit::new();
+    unit.contacts(&["BREAKER_CLOSED"]);
+    unit.ticks(98.0, 1);
+    unit.contacts(&["BREAKER_CLOSED", "RAISE_BUTTON"]);
+    unit.ticks(98.0, 1);
+    unit.hold(unit.image.drive.kind, "AVR_DRIVE_ASKED_MANUALLY");
+    unit = Unit::new();
     unit.ticks(102.0, 20);
     unit.hold(unit.image.drive.direction, "AVR_DIRECTION_LOWER");
     unit.hold(unit.image.repeat, "AVR_WAY_LOWER");
@@ -152,6 +158,7 @@ fn refusals() {
     unit.hold(changed(slot::T8, 0), "AVR_REFUSED_RANGE");
     unit.hold(changed(slot::N_POS, 1), "AVR_ACCEPTED");
     unit.hold(changed(slot::N_L, 21), "AVR_REFUSED_TAP_ORDER");
+    unit.hold(changed(slot::CONTINUOUS, 1), "AVR_REFUSED_COUNTED");
     unit.image.fault = unit.number("AVR_FAULT_FAST") + 1;
     let answer = tick(&mut unit.image, &unit.brought, &mut unit.outputs);
     unit.hold(answer, "AVR_REFUSED_IMAGE");

@@ -36,6 +36,10 @@ fn spoiled(dice: &mut Dice) -> Vec<u32> {
         list[slot::N_R] = dice.between(1, 40);
         list[slot::N_POS] = dice.between(1, 40);
     }
+    if dice.one_in(8) {
+        list[slot::CONTINUOUS] = 1;
+        list[slot::TAP_SOURCE] = dice.between(0, 4);
+    }
     if dice.one_in(20) {
         list.resize(dice.between(0, 130) as usize, 1);
     }
@@ -45,7 +49,7 @@ fn spoiled(dice: &mut Dice) -> Vec<u32> {
 #[test]
 fn as_the_second_program() {
     let mut dice = Dice::new(7);
-    let mut numbers = [0; 4];
+    let mut numbers = [0; 6];
     for i in 0..LISTS {
         let list = spoiled(&mut dice);
         let before = list.clone();
@@ -54,8 +58,9 @@ fn as_the_second_program() {
         assert_eq!(list, before, "list {i} was changed");
         numbers[started.number as usize] += 1;
     }
-    println!("answers 0 to 3: {numbers:?}");
-    assert!(numbers.iter().all(|&n| n > LISTS / 100), "{numbers:?}");
+    println!("answers 0 to 5: {numbers:?}");
+    assert_eq!(numbers[4], 0, "4 is no answer to a list");
+    assert!([0, 1, 2, 3, 5].iter().all(|&n| numbers[n] > LISTS / 100), "{numbers:?}");
 }
 
 #[test]

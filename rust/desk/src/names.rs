@@ -121,11 +121,11 @@ pub const TABLE: [Slot; SLOTS] = [
     sliding("N8", "sliding tap 8"),
     sliding("N9", "sliding tap 9"),
     sliding("N10", "sliding tap 10"),
+    words("XB2", "regulation: by the drive's switching contact, or without one", &["impulse", "continuous"]),
 ];
 
 /// Names that the manual's table has and this unit has not, and other spellings.
-pub const ABSENT: [(&str, &str); 7] = [
-    ("XB2", "this unit regulates by pulses only"),
+pub const ABSENT: [(&str, &str); 6] = [
     ("XB19", "this unit takes 3U0 as it is brought"),
     ("R_set", "this unit does not compensate by R and X"),
     ("X_set", "this unit does not compensate by R and X"),

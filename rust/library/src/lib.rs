@@ -6,7 +6,7 @@
 use std::mem::{size_of, transmute};
 
 /// Numbers of a setting sheet.
-pub const SLOTS: usize = 63;
+pub const SLOTS: usize = 64;
 
 /// Measuring organs.
 pub const ORGANS: usize = 7;

@@ -1,7 +1,7 @@
 //! Rule 8: what is blocked.
 
 use crate::input::{bit, Contacts};
-use crate::record::{Direction, CURRENT_ORGANS, ORGANS};
+use crate::record::{Direction, Fault, CURRENT_ORGANS, ORGANS};
 use crate::sheet::{slot, Settings};
 use crate::tap::source;
 
@@ -22,14 +22,20 @@ impl Blocks {
             Direction::Lower => self.lower,
         }
     }
+
+    /// These blocks, and the fault's: it is a common block.
+    pub fn with_fault(self, fault: Fault) -> Blocks {
+        match fault {
+            Fault::None => self,
+            _ => Blocks { automatic: true, manual: true, raise: true, lower: true },
+        }
+    }
 }
 
-/// What rule 8 looks at, all of it from this tick.
+/// What rule 8 looks at besides the fault, all of it from this tick.
 pub struct Sight<'a> {
     pub settings: &'a Settings,
     pub contacts: Contacts,
-    /// A fault after rule 7.
-    pub fault: bool,
     pub section: bool,
     pub voltage_missing: bool,
     pub trips: [bool; ORGANS],
@@ -47,9 +53,9 @@ const COMMON: [u32; 7] = [
     bit::LOCAL_DRIVE,
 ];
 
-/// Rule 8.
+/// Rule 8, the fault left aside.
 pub fn judge(sight: &Sight) -> Blocks {
-    let common = sight.fault || sight.contacts.any(&COMMON);
+    let common = sight.contacts.any(&COMMON);
     Blocks {
         automatic: common || automatic(sight),
         manual: common || manual(sight),

@@ -3,7 +3,7 @@
 use crate::blocks::Blocks;
 use crate::input::{bit, Contacts};
 use crate::record::{Direction, Drive, Record, Side, Wait};
-use crate::sheet::{slot, Settings};
+use crate::sheet::{is_continuous, slot, Settings};
 use crate::voltage::Voltage;
 
 /// What rule 9 decides.
@@ -60,13 +60,14 @@ fn automatic(record: &Record, repeat: Option<Side>, voltage: &Voltage, side: Sid
     Decision { wait: Wait::to(side, waited), begun: None, repeat }
 }
 
-/// T3 if high and U > U_set5, else T2 for a repeated command, else T1.
+/// T3 if high and U > U_set5, else T2 for a repeated command, else T1. Without
+/// the contact "T3 where it names T3, else T1, never T2".
 fn delay(settings: &Settings, repeat: Option<Side>, voltage: &Voltage, side: Side) -> u32 {
     let fast_lower = i64::from(settings[slot::U_SET5]);
     let far_above = voltage.u.is_some_and(|u| u > fast_lower);
     if side == Side::High && far_above {
         settings[slot::T3]
-    } else if repeat == Some(side) {
+    } else if repeat == Some(side) && !is_continuous(settings) {
         settings[slot::T2]
     } else {
         settings[slot::T1]
@@ -86,7 +87,8 @@ fn manual(record: &Record, contacts: Contacts, blocks: &Blocks) -> Option<Direct
     (!before && !blocked).then_some(direction)
 }
 
-/// Rule 10: a command is on while asked, and in its move while length <= T7.
+/// Rule 10: a command is on while asked (without the contact: while held), and
+/// in its move while length <= T7.
 /// The drive's own moves have no command.
 pub fn command_on(settings: &Settings, drive: Drive) -> Option<Direction> {
     match drive {

@@ -1,4 +1,4 @@
-//! Rule 7: what the switching contact tells of the drive.
+//! Rule 7 for a drive with a switching contact: what the contact tells of it.
 
 use crate::input::{bit, Contacts};
 use crate::record::{Direction, Drive, Fault, Record};
@@ -12,16 +12,19 @@ pub struct Supervised {
     pub fault: Fault,
     /// Direction of a move that ended on this tick.
     pub ended: Option<Direction>,
+    /// Whether an operation ended on this tick: a move, or, without the
+    /// contact, a command.
+    pub operation: bool,
 }
 
 impl Supervised {
-    fn goes_on(drive: Drive) -> Supervised {
-        Supervised { drive, fault: Fault::None, ended: None }
+    pub fn goes_on(drive: Drive) -> Supervised {
+        Supervised { drive, fault: Fault::None, ended: None, operation: false }
     }
 
     /// A fault brings rest.
-    fn rests_with(fault: Fault) -> Supervised {
-        Supervised { drive: Drive::Rest, fault, ended: None }
+    pub fn rests_with(fault: Fault) -> Supervised {
+        Supervised { drive: Drive::Rest, fault, ended: None, operation: false }
     }
 }
 
@@ -38,7 +41,7 @@ pub fn step(record: &Record, fault: Fault, contacts: Contacts, tap: u32) -> Supe
         Drive::Asked { direction, .. } if closed => {
             Supervised::goes_on(Drive::Moving { direction, length: 1, commanded: true })
         }
-        Drive::Asked { direction, age } => still_asked(settings, direction, age),
+        Drive::Asked { direction, age, automatic } => still_asked(settings, direction, age, automatic),
         Drive::Moving { direction, length, commanded } if closed => still_moving(settings, direction, length, commanded),
         Drive::Moving { direction, length, commanded } => ended(settings, direction, length, commanded),
     }
@@ -56,12 +59,12 @@ fn unasked(record: &Record, tap: u32) -> Supervised {
 }
 
 /// Open on the T5th tick after the command's first: not started.
-fn still_asked(settings: &Settings, direction: Direction, age: u32) -> Supervised {
+fn still_asked(settings: &Settings, direction: Direction, age: u32, automatic: bool) -> Supervised {
     let age = age + 1;
     if age >= settings[slot::T5] {
         return Supervised::rests_with(Fault::NotStarted);
     }
-    Supervised::goes_on(Drive::Asked { direction, age })
+    Supervised::goes_on(Drive::Asked { direction, age, automatic })
 }
 
 /// Closed for more than T4 ticks: long.
@@ -76,5 +79,6 @@ fn still_moving(settings: &Settings, direction: Direction, length: u32, commande
 /// Opened: the move is over, and was fast if commanded and shorter than T6.
 fn ended(settings: &Settings, direction: Direction, length: u32, commanded: bool) -> Supervised {
     let fast = commanded && length < settings[slot::T6];
-    Supervised { drive: Drive::Rest, fault: if fast { Fault::Fast } else { Fault::None }, ended: Some(direction) }
+    let fault = if fast { Fault::Fast } else { Fault::None };
+    Supervised { drive: Drive::Rest, fault, ended: Some(direction), operation: true }
 }

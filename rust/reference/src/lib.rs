@@ -1,9 +1,9 @@
 //! A transformer tap-changer voltage regulator: the rules of one tick.
 //!
 //! The rules and their numbers are those of the scope paper ("What to make,
-//! and the rules of one tick"), changed by ticket 1: "A reading shall count as
-//! the nearest whole mV or mA, a half going up". A tick is 5 ms. Delays count
-//! ticks, voltages are in mV, currents in mA.
+//! and the rules of one tick"), changed by ticket 1, "Readings to the nearest
+//! thousandth", and ticket 2, "Drives without a switching contact". A tick is
+//! 5 ms. Delays count ticks, voltages are in mV, currents in mA.
 //!
 //! * [`sheet::check`] takes or refuses a setting sheet,
 //! * [`tick::tick`] advances a record by one tick and gives its outputs.
@@ -12,11 +12,13 @@
 
 pub mod blocks;
 pub mod command;
+pub mod continuous;
 pub mod dice;
 pub mod drive;
 pub mod input;
 pub mod make;
 pub mod make_sheet;
+pub mod motor;
 pub mod organs;
 pub mod plant;
 pub mod reading;

@@ -1,7 +1,8 @@
 //! Chance setting sheets that pass the check.
 
 use crate::dice::Dice;
-use crate::sheet::{module_k, slot, Settings, RANGES, SLOTS};
+use crate::sheet::{is_continuous, module_k, slot, Settings, RANGES, SLOTS};
+use crate::tap::source;
 
 /// A sheet: ordinary, at corners of its ranges, or with long delays.
 pub fn sheet(dice: &mut Dice) -> Settings {
@@ -15,6 +16,7 @@ pub fn sheet(dice: &mut Dice) -> Settings {
         settings[slot::IN_SERVICE] = 1;
     }
     order_taps(&mut settings);
+    count_no_taps_without_contact(dice, &mut settings);
     settings
 }
 
@@ -35,6 +37,7 @@ fn switches(dice: &mut Dice, settings: &mut Settings) {
     settings[slot::COMPENSATION] = dice.between(0, 1);
     settings[slot::COMPENSATION_CURRENT] = dice.between(0, 3);
     settings[slot::TAP_SOURCE] = dice.between(0, 4);
+    settings[slot::CONTINUOUS] = dice.between(0, 1);
     for organ in &mut settings[slot::ORGANS_ON..slot::CURRENT_ORGANS_PASS] {
         *organ = u32::from(!dice.one_in(4));
     }
@@ -76,7 +79,9 @@ fn delays(dice: &mut Dice, settings: &mut Settings) {
         let longest = dice.pick(&[24, 30, 60]);
         settings[t] = dice.between(20, longest);
     }
-    settings[slot::T4] = dice.between(20, 60);
+    // Held commands often last to their end.
+    let longest = if is_continuous(settings) { dice.pick(&[20, 22, 30, 60]) } else { 60 };
+    settings[slot::T4] = dice.between(20, longest);
     settings[slot::T6] = dice.between(0, 25);
     settings[slot::T7] = dice.between(0, 25);
     for delay in &mut settings[slot::T9..slot::N_POS] {
@@ -106,7 +111,7 @@ fn taps(dice: &mut Dice, settings: &mut Settings) {
 fn push_to_corners(dice: &mut Dice, settings: &mut Settings) {
     let often = dice.pick(&[2, 4, 10]);
     for (i, range) in RANGES.iter().enumerate() {
-        if i == slot::MODULE || range.times_k || !dice.one_in(often) {
+        if [slot::MODULE, slot::CONTINUOUS].contains(&i) || range.times_k || !dice.one_in(often) {
             continue;
         }
         let steps = (range.high - range.low) / range.step;
@@ -154,4 +159,11 @@ fn order_taps(settings: &mut Settings) {
     settings[slot::N_L] = lowest;
     settings[slot::N_R] = highest;
     settings[slot::N_POS] = settings[slot::N_POS].clamp(lowest, highest);
+}
+
+/// Another tap source where refusal 5 would come.
+fn count_no_taps_without_contact(dice: &mut Dice, settings: &mut Settings) {
+    if is_continuous(settings) && settings[slot::TAP_SOURCE] >= source::COUNTED {
+        settings[slot::TAP_SOURCE] = dice.between(source::NOTHING, source::SENSOR);
+    }
 }

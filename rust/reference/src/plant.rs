@@ -1,24 +1,27 @@
-//! A simulated drive that answers commands, well or badly.
+//! A simulated drive with a switching contact that answers commands, well or
+//! badly.
 
 use crate::dice::Dice;
 use crate::record::Direction;
 use crate::sheet::{slot, Settings};
 use crate::tap::is_sliding;
 
-/// How the drive behaves.
+/// How the drive behaves; after the colon, how one without the contact does.
 #[derive(Clone, Copy, Debug, PartialEq, Eq)]
 pub enum Temper {
-    /// Starts within T5 and turns for T6 to T4 ticks.
+    /// Starts within T5 and turns for T6 to T4 ticks: comes to a tap every few
+    /// ticks.
     Proper,
-    /// Never starts.
+    /// Never starts: sticks.
     Dead,
-    /// Starts about T5 ticks after the command.
+    /// Starts about T5 ticks after the command: comes to its first tap about T4
+    /// ticks after it.
     Late,
-    /// Turns for about T4 ticks.
+    /// Turns for about T4 ticks: comes to a tap or two in T4 ticks.
     Slow,
-    /// Turns for about T6 ticks.
+    /// Turns for about T6 ticks: comes to a tap on every tick.
     Quick,
-    /// Also closes the contact on its own.
+    /// Also closes the contact on its own: also comes to a tap on its own.
     Wild,
 }
 
@@ -100,14 +103,18 @@ impl Plant {
         }
     }
 
-    /// The new tap; from a sliding one the drive soon goes on by itself.
-    fn arrive(&mut self, dice: &mut Dice, settings: &Settings) {
-        // Seldom one tap past an end.
+    /// One tap this way, seldom past an end.
+    pub fn next_tap(&mut self, dice: &mut Dice, settings: &Settings, direction: Direction) {
         let past = u32::from(dice.one_in(8));
-        self.tap = match self.direction {
+        self.tap = match direction {
             Direction::Raise => (self.tap + 1).min(settings[slot::N_R] + past),
             Direction::Lower => self.tap.saturating_sub(1).max(settings[slot::N_L] - past),
         };
+    }
+
+    /// The new tap; from a sliding one the drive soon goes on by itself.
+    fn arrive(&mut self, dice: &mut Dice, settings: &Settings) {
+        self.next_tap(dice, settings, self.direction);
         let slides = is_sliding(settings, self.tap) && !dice.one_in(4);
         self.state = match slides || dice.one_in(40) {
             true => State::Starting { wait: dice.between(0, 6), hold: hold(dice, settings, Temper::Proper) },

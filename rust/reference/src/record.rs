@@ -1,6 +1,6 @@
 //! The regulator's record: all that one tick hands to the next.
 
-use crate::sheet::{check, check_ranges, check_taps, slot, Refusal, Settings, SLOTS};
+use crate::sheet::{check, check_settings, is_continuous, slot, Refusal, Settings, SLOTS};
 
 /// How many organs there are (slots 6-12 switch them on).
 pub const ORGANS: usize = 7;
@@ -50,11 +50,15 @@ pub struct Organ {
 #[derive(Clone, Copy, Debug, PartialEq, Eq)]
 pub enum Drive {
     Rest,
-    /// A command was given and the contact has not closed yet.
+    /// A command was given and the contact has not closed yet; without the
+    /// contact, the command is held.
     Asked {
         direction: Direction,
         /// Ticks after the command's first.
         age: u32,
+        /// The mode of the command's first tick. With the contact nothing goes
+        /// by it.
+        automatic: bool,
     },
     /// The switching contact is closed.
     Moving {
@@ -168,11 +172,10 @@ impl Record {
     }
 }
 
-/// The paper's "Limits of a record".
+/// The paper's "Limits of a record", as ticket 2 changes them.
 pub fn within_limits(record: &Record) -> bool {
     let settings = &record.settings;
-    check_ranges(settings).is_ok()
-        && check_taps(settings).is_ok()
+    check_settings(settings).is_ok()
         && wait_within(record)
         && drive_within(record)
         && fault_within(record)
@@ -189,20 +192,26 @@ fn wait_within(record: &Record) -> bool {
     }
 }
 
-/// Age of an asked command below T5, length of a move 1 to T4.
+/// Age of an asked command below T5, length of a move 1 to T4. Without the
+/// contact "no move", and "a held command's age is below T4".
 fn drive_within(record: &Record) -> bool {
+    let settings = &record.settings;
     match record.drive {
         Drive::Rest => true,
-        Drive::Asked { age, .. } => age < record.settings[slot::T5],
-        Drive::Moving { length, .. } => (1..=record.settings[slot::T4]).contains(&length),
+        Drive::Asked { age, .. } if is_continuous(settings) => age < settings[slot::T4],
+        Drive::Asked { age, .. } => age < settings[slot::T5],
+        Drive::Moving { length, .. } => !is_continuous(settings) && (1..=settings[slot::T4]).contains(&length),
     }
 }
 
-/// A fault only at rest, its age at most T8; no age without a fault.
+/// A fault only at rest, its age at most T8; no age without a fault. Without
+/// the contact "no fault but 'long'".
 fn fault_within(record: &Record) -> bool {
+    let settings = &record.settings;
     match record.fault {
         Fault::None => record.fault_age == 0,
-        _ => record.drive == Drive::Rest && record.fault_age <= record.settings[slot::T8],
+        fault if is_continuous(settings) && fault != Fault::Long => false,
+        _ => record.drive == Drive::Rest && record.fault_age <= settings[slot::T8],
     }
 }
 

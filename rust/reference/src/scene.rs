@@ -3,10 +3,11 @@
 use crate::dice::Dice;
 use crate::input::{bit, Input, CONTACTS, READINGS};
 use crate::make_sheet;
+use crate::motor::Motor;
 use crate::plant::Plant;
 use crate::reading::Reading;
 use crate::record::{Direction, Record};
-use crate::sheet::{module_k, slot, Settings};
+use crate::sheet::{is_continuous, module_k, slot, Settings};
 use crate::stretch::{others, Buttons, Level, Stretch, LOWER, RAISE};
 use crate::tick::{tick, Ticked, OUTPUTS};
 use crate::voltage::compensation;
@@ -17,6 +18,7 @@ pub struct Scene {
     pub record: Record,
     outputs: [u32; OUTPUTS],
     plant: Plant,
+    motor: Motor,
     stretch: Stretch,
 }
 
@@ -30,6 +32,7 @@ impl Scene {
             record: Record::fresh(settings),
             outputs: [0; OUTPUTS],
             plant: Plant::new(settings[slot::N_POS]),
+            motor: Motor::default(),
             stretch,
         }
     }
@@ -38,6 +41,7 @@ impl Scene {
     pub fn next_tick(&mut self) -> (Input, Ticked) {
         if self.stretch.left == 0 {
             self.stretch = Stretch::new(&mut self.dice, &self.record.settings);
+            self.motor.lift = 0;
         }
         self.stretch.left -= 1;
         let input = self.input();
@@ -55,23 +59,17 @@ impl Scene {
         }
         let mut numbers = [self.u_ab(&settings, contacts); READINGS];
         numbers[1..].copy_from_slice(&self.stretch.others);
-        let readings = numbers.map(|number| self.reading(number));
+        let mut readings = numbers.map(|number| self.reading(number));
+        if self.disturbs(&settings) && self.dice.one_in(4) {
+            readings[0] = self.spoiled(float_of(numbers[0]));
+        }
         Input::of(readings, contacts, self.bcd(), self.sensor())
     }
 
     /// The steady contacts, the drive's, the buttons, reset, and flips.
     fn contacts(&mut self, settings: &Settings) -> u32 {
         let mut contacts = self.stretch.contacts | (self.dice.bits() << CONTACTS);
-        let command = match (self.outputs[0], self.outputs[1]) {
-            (1, _) => Some(Direction::Raise),
-            (_, 1) => Some(Direction::Lower),
-            _ => None,
-        };
-        let temper = self.stretch.temper;
-        let dice = &mut self.dice;
-        if self.plant.contact(dice, settings, temper, command) {
-            contacts |= 1 << bit::SWITCHING;
-        }
+        contacts |= u32::from(self.switching(settings)) << bit::SWITCHING;
         contacts |= match self.stretch.buttons {
             Buttons::Still(bits) => bits,
             Buttons::Tapped if self.dice.one_in(6) => self.dice.pick(&[RAISE, LOWER]),
@@ -87,7 +85,36 @@ impl Scene {
                 false => 1 << self.dice.between(0, CONTACTS - 1),
             };
         }
+        if self.disturbs(settings) {
+            contacts ^= 1 << self.dice.between(0, CONTACTS - 1);
+        }
         contacts
+    }
+
+    /// The drive's tick, and bit 1: anything where there is no contact.
+    fn switching(&mut self, settings: &Settings) -> bool {
+        let command = match (self.outputs[0], self.outputs[1]) {
+            (1, _) => Some(Direction::Raise),
+            (_, 1) => Some(Direction::Lower),
+            _ => None,
+        };
+        let (dice, temper) = (&mut self.dice, self.stretch.temper);
+        if is_continuous(settings) {
+            self.motor.run(dice, settings, temper, command, &mut self.plant);
+            return dice.one_in(2);
+        }
+        self.plant.contact(dice, settings, temper, command)
+    }
+
+    /// Whether something comes in between while a command is held: seldom, but
+    /// often on the T4th tick after its first, the one of 'long'.
+    fn disturbs(&mut self, settings: &Settings) -> bool {
+        let often = match settings[slot::T4].checked_sub(self.motor.ticks) {
+            Some(0) => 3,
+            Some(1) => 15,
+            _ => 200,
+        };
+        self.motor.ticks > 0 && self.dice.one_in(often)
     }
 
     /// U_AB, in mV, that brings U to the stretch's level.
@@ -117,7 +144,7 @@ impl Scene {
             0 => 0,
             _ => compensation(settings[slot::U_COMP], current, module_k(settings)),
         };
-        (u + less).clamp(0, 200_000) as u32
+        (u + less + self.motor.lift).clamp(0, 200_000) as u32
     }
 
     /// A reading that counts as so many thousandths, sometimes spoiled; one in
@@ -127,9 +154,14 @@ impl Scene {
             place @ 0..BESIDE => floats_beside(number)[place],
             _ => float_of(number),
         };
-        if !self.dice.one_in(self.stretch.noise * 3) {
-            return Reading::Good(float);
+        match self.dice.one_in(self.stretch.noise * 3) {
+            true => self.spoiled(float),
+            false => Reading::Good(float),
         }
+    }
+
+    /// Held, missing, or at an end of the range.
+    fn spoiled(&mut self, float: f32) -> Reading {
         let dice = &mut self.dice;
         match dice.between(0, 9) {
             0..=2 => Reading::Held(float),

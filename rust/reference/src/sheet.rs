@@ -1,7 +1,9 @@
 //! The setting sheet: its numbers and the one list of ranges they must meet.
 
+use crate::tap::source;
+
 /// How many numbers a sheet has.
-pub const SLOTS: usize = 63;
+pub const SLOTS: usize = 64;
 
 /// How many of them are sliding taps.
 pub const SLIDING_TAPS: usize = 10;
@@ -54,6 +56,8 @@ pub mod slot {
     pub const N_MAX: usize = 52;
     /// First of the sliding taps.
     pub const SLIDING: usize = 53;
+    /// Continuous regulation, of a drive without a switching contact.
+    pub const CONTINUOUS: usize = 63;
 }
 
 /// A slot takes low + a whole multiple of step, up to high.
@@ -113,6 +117,8 @@ pub const RANGES: [Range; SLOTS] = [
     // 53-62: sliding taps
     TAP_OR_EMPTY, TAP_OR_EMPTY, TAP_OR_EMPTY, TAP_OR_EMPTY, TAP_OR_EMPTY,
     TAP_OR_EMPTY, TAP_OR_EMPTY, TAP_OR_EMPTY, TAP_OR_EMPTY, TAP_OR_EMPTY,
+    // 63: continuous regulation
+    FLAG,
 ];
 
 impl Range {
@@ -129,7 +135,7 @@ impl Range {
     }
 }
 
-/// Why a sheet was not taken: the paper's number 1, 2 or 3, and the slot.
+/// Why a sheet was not taken: number 1, 2, 3 or 5, and the slot.
 #[derive(Clone, Copy, Debug, PartialEq, Eq)]
 pub struct Refusal {
     pub number: u32,
@@ -148,12 +154,23 @@ pub fn module_k(settings: &Settings) -> u32 {
     }
 }
 
+/// Whether the drive has no switching contact and is regulated continuously.
+pub fn is_continuous(settings: &Settings) -> bool {
+    settings[slot::CONTINUOUS] == 1
+}
+
 /// Takes a list, or refuses it.
 pub fn check(list: &[u32]) -> Result<Settings, Refusal> {
     let settings: Settings = list.try_into().map_err(|_| refusal(1, 0))?;
-    check_ranges(&settings)?;
-    check_taps(&settings)?;
+    check_settings(&settings)?;
     Ok(settings)
+}
+
+/// Refusals 2, 3 and 5, in this order.
+pub fn check_settings(settings: &Settings) -> Result<(), Refusal> {
+    check_ranges(settings)?;
+    check_taps(settings)?;
+    check_continuous(settings)
 }
 
 /// Refusal 2: the lowest slot out of its range.
@@ -177,4 +194,14 @@ pub fn check_taps(settings: &Settings) -> Result<(), Refusal> {
         return Err(refusal(3, slot::N_POS));
     }
     Ok(())
+}
+
+/// Refusal 5: "when slot 63 is 1 and slot 5 is 3 or 4". Without the contact
+/// there are no moves to count taps by.
+pub fn check_continuous(settings: &Settings) -> Result<(), Refusal> {
+    let counted = [source::COUNTED, source::COUNTED_REVERSED].contains(&settings[slot::TAP_SOURCE]);
+    match is_continuous(settings) && counted {
+        true => Err(refusal(5, slot::CONTINUOUS)),
+        false => Ok(()),
+    }
 }

@@ -2,9 +2,10 @@
 
 use crate::dice::Dice;
 use crate::input::{bit, READINGS};
+use crate::motor::MOTOR_TEMPERS;
 use crate::plant::{Temper, TEMPERS};
 use crate::reading::amp_limit;
-use crate::sheet::{module_k, slot, Settings};
+use crate::sheet::{is_continuous, module_k, slot, Settings};
 
 /// Where the voltage stays during a stretch of ticks.
 #[derive(Clone, Copy)]
@@ -50,7 +51,7 @@ impl Stretch {
             left: dice.pick(&[1, 10, 100, 200, 300]) + dice.between(0, 100),
             contacts: steady_contacts(dice),
             level: level(dice),
-            temper: dice.pick(&TEMPERS),
+            temper: dice.pick(if is_continuous(settings) { &MOTOR_TEMPERS } else { &TEMPERS }),
             buttons: buttons(dice),
             others: others(dice, settings),
             noise: dice.pick(&[0, 0, 0, 0, 200, 60, 10]),

@@ -2,12 +2,13 @@
 
 use crate::blocks::{self, Blocks, Sight};
 use crate::command::{self, Decision};
+use crate::continuous;
 use crate::drive::{self, Supervised};
 use crate::input::{bit, Contacts, Input};
 use crate::organs;
 use crate::record::{within_limits, Direction, Drive, Fault, Organ, Record, Side, MOST_OPERATIONS, ORGANS};
 use crate::section;
-use crate::sheet::{slot, Settings};
+use crate::sheet::{is_continuous, slot, Settings};
 use crate::tap::{self, Tap};
 use crate::voltage::{self, Voltage};
 
@@ -62,7 +63,7 @@ fn live(record: &Record, input: &Input) -> Ticked {
     Ticked { refusal: 0, outputs, next }
 }
 
-/// Rules 2 to 9, in order.
+/// Rules 2 to 9, in order; of rule 8 only the fault's block waits for rule 7.
 fn find(record: &Record, input: &Input) -> Findings {
     let (settings, contacts) = (&record.settings, input.contacts);
     let (fault, age_before) = after_reset(record, contacts);
@@ -70,16 +71,13 @@ fn find(record: &Record, input: &Input) -> Findings {
     let tap = tap::read(record, input);
     let (organs, trips) = organs::step(record, input, section);
     let voltage = voltage::judge(settings, input);
-    let supervised = drive::step(record, fault, contacts, tap.number);
-    let blocks = blocks::judge(&Sight {
-        settings,
-        contacts,
-        fault: supervised.fault != Fault::None,
-        section,
-        voltage_missing: voltage.u.is_none(),
-        trips,
-        tap: tap.number,
-    });
+    let voltage_missing = voltage.u.is_none();
+    let blocks = blocks::judge(&Sight { settings, contacts, section, voltage_missing, trips, tap: tap.number });
+    let supervised = match is_continuous(settings) {
+        false => drive::step(record, fault, contacts, tap.number),
+        true => continuous::step(record, fault, contacts, &voltage, &blocks),
+    };
+    let blocks = blocks.with_fault(supervised.fault);
     let rests = supervised.drive == Drive::Rest;
     let decision = command::decide(record, rests, contacts, &voltage, &blocks);
     Findings { age_before, section, tap, organs, trips, voltage, supervised, blocks, decision }
@@ -96,28 +94,28 @@ fn after_reset(record: &Record, contacts: Contacts) -> (Fault, u32) {
 /// The record after the tick.
 fn advance(record: &Record, input: &Input, findings: &Findings) -> Record {
     let settings = record.settings;
-    let Supervised { fault, ended, .. } = findings.supervised;
+    let Supervised { fault, ended, operation, .. } = findings.supervised;
     let (counted_tap, _) = tap::counted_after(record, ended);
     Record {
         settings,
         organs: findings.organs,
-        drive: drive_after(findings),
+        drive: drive_after(input.contacts, findings),
         fault,
         fault_age: fault_age(&settings, fault, findings.age_before),
         wait: findings.decision.wait,
         repeat: findings.decision.repeat,
         last_direction: ended.or(record.last_direction),
         counted_tap,
-        operations: operations_after(record, ended),
+        operations: operations_after(record, operation),
         raise_button: input.contacts.on(bit::RAISE_BUTTON),
         lower_button: input.contacts.on(bit::LOWER_BUTTON),
     }
 }
 
 /// A command begun on this tick is asked, with no tick after its first yet.
-fn drive_after(findings: &Findings) -> Drive {
+fn drive_after(contacts: Contacts, findings: &Findings) -> Drive {
     match findings.decision.begun {
-        Some(direction) => Drive::Asked { direction, age: 0 },
+        Some(direction) => Drive::Asked { direction, age: 0, automatic: contacts.on(bit::AUTOMATIC) },
         None => findings.supervised.drive,
     }
 }
@@ -130,11 +128,11 @@ fn fault_age(settings: &Settings, fault: Fault, before: u32) -> u32 {
     }
 }
 
-/// An ended move is an operation, if slot 17 counts them.
-fn operations_after(record: &Record, ended: Option<Direction>) -> u32 {
-    match (ended, record.settings[slot::WEAR_COUNT]) {
-        (Some(_), 1) => MOST_OPERATIONS.min(record.operations + 1),
-        _ => record.operations,
+/// One more after an operation, if slot 17 counts them.
+fn operations_after(record: &Record, operation: bool) -> u32 {
+    match operation && record.settings[slot::WEAR_COUNT] == 1 {
+        true => MOST_OPERATIONS.min(record.operations + 1),
+        false => record.operations,
     }
 }
 

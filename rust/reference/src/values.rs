@@ -24,6 +24,7 @@ pub const BASE: Settings = [
     20, 40, 1,
     0, 100_000,
     0, 0, 0, 0, 0, 0, 0, 0, 0, 0,
+    0,
 ];
 
 /// Good readings against 200, by their bits.
@@ -122,6 +123,7 @@ pub fn print(out: &mut impl Write) -> io::Result<()> {
     print_sheets(out)?;
     print_slots(out, "slot", &BASE)?;
     print_slots(out, "slot5", &base_5a())?;
+    print_slots(out, "continuous", &base_continuous())?;
     print_bcd(out)
 }
 
@@ -239,5 +241,14 @@ pub fn base_5a() -> Settings {
     list[slot::I_SET1] = 5_000;
     list[slot::I_SET2] = 5_000;
     list[slot::I_SET3] = 500;
+    list
+}
+
+/// The base sheet for a drive without the contact, with counted taps: refused
+/// with 5, so that slot by slot it shows what comes before 5.
+pub fn base_continuous() -> Settings {
+    let mut list = BASE;
+    list[slot::CONTINUOUS] = 1;
+    list[slot::TAP_SOURCE] = tap::source::COUNTED;
     list
 }

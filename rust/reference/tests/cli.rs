@@ -1,10 +1,12 @@
 //! The command line, with files in a directory of its own for each test.
 
 use std::fs;
-use std::path::PathBuf;
+use std::path::{Path, PathBuf};
 use std::process::{Command, Output};
 
-use reference::recording::{sheet_to_bytes, READING_BYTES, SHEET_BYTES, TICK_BYTES};
+use reference::make::make;
+use reference::record::Record;
+use reference::recording::{sheet_from_bytes, sheet_to_bytes, READING_BYTES, SHEET_BYTES, TICK_BYTES};
 use reference::scene::Scene;
 use reference::sheet::SLOTS;
 use reference::values::{AGAINST_200, AGAINST_40, BASE, HELD_AGAINST_200};
@@ -47,10 +49,13 @@ fn values_have_all_their_lines() {
     assert!(output.status.success());
     let lines = text(&output.stdout);
     let readings = AGAINST_200.len() + AGAINST_40.len() + HELD_AGAINST_200.len();
-    assert_eq!(lines.lines().count(), readings + 1 + 4 + 2 * SLOTS + 256);
+    assert_eq!(lines.lines().count(), readings + 1 + 4 + 3 * SLOTS + 256);
     assert!(lines.starts_with("reading 200 1120416563 100100\nreading 200 1128792064 200000\n"));
     assert!(lines.contains("\nreading 200 1128792064 200000\nreading 200 1031798784 63\nreadings 20000 "));
     assert!(lines.contains("\nsheet 0 0\nsheet 1 0\nsheet 1 0\nsheet 1 0\nslot 0 "));
+    let words: Vec<&str> = lines.lines().map(|line| line.split(' ').next().unwrap()).collect();
+    let blocks: Vec<(&str, usize)> = words.chunk_by(|a, b| a == b).map(|block| (block[0], block.len())).collect();
+    assert_eq!(blocks[3..], [("slot", SLOTS), ("slot5", SLOTS), ("continuous", SLOTS), ("bcd", 256)]);
 }
 
 #[test]
@@ -87,6 +92,23 @@ fn every_25th_made_sheet_is_spoiled() {
     reference(&["make", "99", "0", &sheet, &recording]);
     let output = reference(&["replay", &sheet, &recording]);
     assert_eq!(text(&output.stdout), "1 0\n");
+}
+
+#[test]
+fn spoiled_sheets_meet_every_refusal() {
+    let (sheet, recording) = files("spoiled-ways");
+    let mut refusals = [0; 6];
+    for seed in (24..10_000).step_by(25) {
+        make(seed, 0, Path::new(&sheet), Path::new(&recording)).unwrap();
+        let answer = Record::start(&sheet_from_bytes(&fs::read(&sheet).unwrap()));
+        let number = answer.err().map_or(0, |refusal| refusal.number);
+        assert_eq!(number == 1, seed % 100 == 99);
+        refusals[number as usize] += 1;
+    }
+    for number in [1, 2, 3, 5] {
+        assert!(refusals[number] > 0, "{refusals:?}");
+    }
+    assert!(refusals[5] > 40, "{refusals:?}");
 }
 
 #[test]

@@ -1,10 +1,11 @@
-//! Rules 9 and 7 told once more, from inputs and outputs alone: a watcher that
-//! never looks into the record must agree on every tick.
+//! Rules 9 and 7 told once more, from inputs and outputs alone, for both kinds
+//! of drive: a watcher that never looks into the record must agree on every
+//! tick.
 
 use reference::input::{bit, Input};
 use reference::record::Side;
 use reference::scene::Scene;
-use reference::sheet::{slot, Settings};
+use reference::sheet::{is_continuous, slot, Settings};
 use reference::tick::OUTPUTS;
 use reference::voltage;
 
@@ -75,9 +76,14 @@ impl Watcher {
         }
     }
 
+    /// Open contact; of a drive without one nothing is asked.
+    fn open(&self, input: &Input) -> bool {
+        is_continuous(&self.settings) || !input.contacts.on(bit::SWITCHING)
+    }
+
     /// The side to which this is a waiting tick, in automatic.
     fn waits_to(&self, input: &Input, outputs: &Outputs) -> Option<Side> {
-        let clear = self.at_rest() && !input.contacts.on(bit::SWITCHING) && outputs[13] == 0 && outputs[19..=22] == [0; 4];
+        let clear = self.at_rest() && self.open(input) && outputs[13] == 0 && outputs[19..=22] == [0; 4];
         if clear && outputs[17] == 1 && outputs[15] == 0 {
             Some(Side::Low)
         } else if clear && outputs[18] == 1 && outputs[16] == 0 {
@@ -106,8 +112,8 @@ impl Watcher {
         let fast = side == Side::High && u.unwrap() > i64::from(self.settings[slot::U_SET5]);
         let delay = match (fast, self.repeat) {
             (true, _) => self.settings[slot::T3],
-            (false, Some(_)) => self.settings[slot::T2],
-            (false, None) => self.settings[slot::T1],
+            (false, Some(_)) if !is_continuous(&self.settings) => self.settings[slot::T2],
+            (false, _) => self.settings[slot::T1],
         };
         if self.row < delay {
             return (0, 0);
@@ -123,7 +129,7 @@ impl Watcher {
     fn manual(&mut self, input: &Input, outputs: &Outputs) -> (u32, u32) {
         self.row_side = None;
         self.repeat = None;
-        let rests = self.at_rest() && !input.contacts.on(bit::SWITCHING);
+        let rests = self.at_rest() && self.open(input);
         if !rests || outputs[14] == 1 {
             return (0, 0);
         }
@@ -152,12 +158,13 @@ impl Watcher {
     }
 
     /// A move has ended if the drive came to rest on an open contact, without
-    /// local drive and without 'not started'.
+    /// local drive and without 'not started'; a drive without the contact has
+    /// ended its command if it came to rest without local drive and 'long'.
     fn wear(&mut self, input: &Input, outputs: &Outputs) {
         let came_to_rest = self.before[24] == 1 && outputs[24] == 0;
-        let open = !input.contacts.on(bit::SWITCHING);
+        let fault = if is_continuous(&self.settings) { 21 } else { 20 };
         let local = input.contacts.on(bit::LOCAL_DRIVE);
-        if came_to_rest && open && !local && outputs[20] == 0 {
+        if came_to_rest && self.open(input) && !local && outputs[fault] == 0 {
             self.operations += 1;
         }
         let counts = self.settings[slot::WEAR_COUNT];
@@ -169,15 +176,16 @@ impl Watcher {
 
 #[test]
 fn a_watcher_agrees() {
-    let mut commands = 0;
-    for seed in 1_000..1_100 {
+    // By the number of slot 63.
+    let mut commands = [0, 0];
+    for seed in 1_000..1_200 {
         let mut scene = Scene::new(seed);
         let mut watcher = Watcher::new(scene.record.settings);
         for _ in 0..1_000 {
             let (input, ticked) = scene.next_tick();
             watcher.watch(&input, &ticked.outputs);
         }
-        commands += watcher.commands;
+        commands[watcher.settings[slot::CONTINUOUS] as usize] += watcher.commands;
     }
-    assert!(commands > 300, "only {commands} commands");
+    assert!(commands.iter().all(|&commands| commands > 300), "only {commands:?} commands");
 }

@@ -10,17 +10,29 @@ use reference::tick::{tick, OUTPUTS};
 const RAISE: Direction = Direction::Raise;
 
 fn asked(age: u32) -> Drive {
-    Drive::Asked { direction: RAISE, age }
+    Drive::Asked { direction: RAISE, age, automatic: true }
+}
+
+fn asked_by_button(age: u32) -> Drive {
+    Drive::Asked { direction: RAISE, age, automatic: false }
 }
 
 fn moving(length: u32) -> Drive {
     Drive::Moving { direction: RAISE, length, commanded: true }
 }
 
-/// Whether the fresh base record, changed so, is within its limits; a record
-/// outside them is refused and left alone.
+/// Whether the fresh base record, changed so, is within its limits.
 fn holds(change: impl Fn(&mut Record)) -> bool {
-    let mut record = fresh(&[]);
+    changed_holds(fresh(&[]), change)
+}
+
+/// The same for a drive without the contact. Its T4 and T5 differ, either way.
+fn continuous_holds(t4: u32, t5: u32, change: impl Fn(&mut Record)) -> bool {
+    changed_holds(fresh(&[(slot::CONTINUOUS, 1), (slot::T4, t4), (slot::T5, t5)]), change)
+}
+
+/// A record outside its limits is refused and left alone.
+fn changed_holds(mut record: Record, change: impl Fn(&mut Record)) -> bool {
     change(&mut record);
     let within = within_limits(&record);
     let ticked = tick(&record, &calm());
@@ -58,6 +70,67 @@ fn drive() {
     assert!(holds(|r| r.drive = moving(100)));
     assert!(!holds(|r| r.drive = moving(0)));
     assert!(!holds(|r| r.drive = moving(101)));
+}
+
+#[test]
+fn with_the_contact_t5_bounds_the_age_of_either_command() {
+    for asked in [asked, asked_by_button] {
+        for (t4, t5) in [(20, 70), (70, 20)] {
+            let within = |age| changed_holds(fresh(&[(slot::T4, t4), (slot::T5, t5)]), |r| r.drive = asked(age));
+            assert!(within(t5 - 1) && !within(t5) && !within(u32::MAX));
+        }
+    }
+}
+
+#[test]
+fn without_the_contact_t4_bounds_the_age_of_either_command() {
+    for asked in [asked, asked_by_button] {
+        for (t4, t5) in [(20, 70), (70, 20)] {
+            let within = |age| continuous_holds(t4, t5, |r| r.drive = asked(age));
+            assert!(within(0) && within(t4 - 1) && !within(t4) && !within(u32::MAX));
+        }
+    }
+}
+
+#[test]
+fn without_the_contact_there_is_no_move() {
+    for length in [0, 1, 20, 21] {
+        for commanded in [false, true] {
+            let drive = Drive::Moving { direction: RAISE, length, commanded };
+            assert!(!continuous_holds(20, 20, |r| r.drive = drive));
+        }
+    }
+    // A last direction is no move.
+    assert!(continuous_holds(20, 20, |r| r.last_direction = Some(RAISE)));
+}
+
+#[test]
+fn without_the_contact_long_is_the_one_fault() {
+    for (fault, within) in [(Fault::RunAway, false), (Fault::NotStarted, false), (Fault::Long, true), (Fault::Fast, false)] {
+        for age in [0, 1, 20] {
+            assert_eq!(continuous_holds(20, 20, |r| (r.fault, r.fault_age) = (fault, age)), within);
+        }
+        assert!(!continuous_holds(20, 20, |r| (r.fault, r.fault_age) = (fault, 21)));
+        assert!(!continuous_holds(20, 20, |r| (r.fault, r.drive) = (fault, asked(0))));
+    }
+    assert!(!continuous_holds(20, 20, |r| r.fault_age = 1));
+}
+
+#[test]
+fn without_the_contact_the_wait_is_as_with_it() {
+    assert!(continuous_holds(20, 20, |r| r.wait = Wait::ToHigh(35_999)));
+    assert!(!continuous_holds(20, 20, |r| r.wait = Wait::ToHigh(36_000)));
+    assert!(!continuous_holds(20, 20, |r| (r.wait, r.drive) = (Wait::ToHigh(1), asked(0))));
+    assert!(continuous_holds(20, 20, |r| (r.wait, r.drive) = (Wait::ToHigh(0), asked(0))));
+}
+
+#[test]
+fn an_accepted_record_passes_5() {
+    for (source, within) in [(0, true), (1, true), (2, true), (3, false), (4, false)] {
+        assert_eq!(continuous_holds(20, 20, |r| r.settings[slot::TAP_SOURCE] = source), within);
+        assert!(holds(|r| r.settings[slot::TAP_SOURCE] = source));
+    }
+    assert!(!holds(|r| r.settings[slot::CONTINUOUS] = 2));
 }
 
 #[test]

@@ -6,7 +6,7 @@ use reference::make_sheet;
 use reference::reading::Reading;
 use reference::record::{within_limits, Direction, Drive, Fault, Organ, Record, Side, Wait, ORGANS};
 use reference::scene::{float_of, Scene};
-use reference::sheet::slot;
+use reference::sheet::{is_continuous, slot, Settings};
 use reference::tick::{tick, Ticked, OUTPUTS};
 
 /// What holds of every accepted tick.
@@ -23,6 +23,34 @@ fn assert_sound(before: &Record, ticked: &Ticked) {
     assert!(outputs[0] + outputs[1] <= outputs[24], "a command at rest");
     let flags = (0..OUTPUTS).filter(|field| ![3, 25].contains(field));
     assert!(flags.into_iter().all(|field| outputs[field] <= 1));
+    if is_continuous(&before.settings) {
+        assert_sound_without_contact(before, ticked);
+    }
+}
+
+/// What holds besides of a drive without the contact.
+fn assert_sound_without_contact(before: &Record, ticked: &Ticked) {
+    let outputs = &ticked.outputs;
+    let next = &ticked.next;
+    assert_eq!([outputs[19], outputs[20], outputs[22]], [0; 3], "a fault other than 'long'");
+    assert_eq!(outputs[0] + outputs[1], outputs[24], "at work without a command");
+    assert!(next.last_direction.is_none() || next.last_direction == before.last_direction);
+    assert!(matches!(next.drive, Drive::Rest | Drive::Asked { .. }));
+    if let (Drive::Asked { direction, age, automatic }, Drive::Asked { .. }) = (before.drive, next.drive) {
+        assert_eq!(next.drive, Drive::Asked { direction, age: age + 1, automatic }, "another command");
+    }
+    if next.fault == Fault::Long && before.fault == Fault::None {
+        let last = before.settings[slot::T4] - 1;
+        assert!(matches!(before.drive, Drive::Asked { age, automatic: true, .. } if age == last), "'long' too early");
+        assert_eq!(outputs[13..=16], [1; 4]);
+    }
+}
+
+/// A tick that differs in bit 1 alone.
+fn contact_turned(input: &Input) -> Input {
+    let mut other = *input;
+    other.contacts.0 ^= 1 << bit::SWITCHING;
+    other
 }
 
 #[test]
@@ -35,6 +63,45 @@ fn scenes_stay_sound() {
             assert_sound(&before, &ticked);
         }
     }
+}
+
+#[test]
+fn without_the_contact_bit_1_is_ignored() {
+    let mut ticks = 0;
+    for seed in 0..100 {
+        let mut scene = Scene::new(seed);
+        if !is_continuous(&scene.record.settings) {
+            continue;
+        }
+        for _ in 0..1_000 {
+            let before = scene.record.clone();
+            let (input, ticked) = scene.next_tick();
+            assert_eq!(ticked, tick(&before, &contact_turned(&input)));
+            ticks += 1;
+        }
+    }
+    assert!(ticks > 30_000, "{ticks}");
+}
+
+#[test]
+fn with_the_contact_nothing_goes_by_the_command_s_mode() {
+    let mut asked = 0;
+    for seed in 0..100 {
+        let mut scene = Scene::new(seed);
+        for _ in 0..1_000 {
+            let mut other = scene.record.clone();
+            let (input, ticked) = scene.next_tick();
+            if is_continuous(&other.settings) {
+                break;
+            }
+            if let Drive::Asked { automatic, .. } = &mut other.drive {
+                *automatic = !*automatic;
+                asked += 1;
+                assert_eq!(tick(&other, &input).outputs, ticked.outputs);
+            }
+        }
+    }
+    assert!(asked > 1_000, "{asked}");
 }
 
 #[test]
@@ -60,6 +127,18 @@ fn chance_sheets_are_taken() {
         let list = make_sheet::sheet(&mut Dice::new(seed));
         assert_eq!(Record::start(&list), Ok(Record::fresh(list)));
     }
+}
+
+#[test]
+fn chance_sheets_are_of_both_kinds_of_drive() {
+    let sheets: Vec<Settings> = (0..2_000).map(|seed| make_sheet::sheet(&mut Dice::new(seed))).collect();
+    let (without, with): (Vec<&Settings>, Vec<&Settings>) = sheets.iter().partition(|sheet| is_continuous(sheet));
+    assert!(without.len() > 900 && with.len() > 900, "{} without the contact", without.len());
+    let sources = |sheets: &[&Settings]| [0, 1, 2, 3, 4].map(|source| sheets.iter().any(|s| s[slot::TAP_SOURCE] == source));
+    assert_eq!(sources(&with), [true; 5]);
+    assert_eq!(sources(&without), [true, true, true, false, false]);
+    let short = without.iter().filter(|sheet| sheet[slot::T4] <= 25).count();
+    assert!(short > without.len() / 2, "{short} with a short T4");
 }
 
 /// Any reading at all, often a sensible one.
@@ -99,11 +178,20 @@ fn any_direction(dice: &mut Dice) -> Direction {
     dice.pick(&[Direction::Raise, Direction::Lower])
 }
 
+/// The highest age of an asked or held command.
+fn longest_asked(settings: &Settings) -> u32 {
+    match is_continuous(settings) {
+        true => settings[slot::T4] - 1,
+        false => settings[slot::T5] - 1,
+    }
+}
+
 fn any_drive(dice: &mut Dice, record: &Record) -> Drive {
     let direction = any_direction(dice);
     match dice.between(0, 2) {
         0 => Drive::Rest,
-        1 => Drive::Asked { direction, age: any_up_to(dice, 0, record.settings[slot::T5] - 1) },
+        1 => Drive::Asked { direction, age: any_up_to(dice, 0, longest_asked(&record.settings)), automatic: dice.one_in(2) },
+        _ if is_continuous(&record.settings) => Drive::Rest,
         _ => Drive::Moving { direction, length: any_up_to(dice, 1, record.settings[slot::T4]), commanded: dice.one_in(2) },
     }
 }
@@ -114,9 +202,12 @@ fn any_record(dice: &mut Dice) -> Record {
     let settings = record.settings;
     record.drive = any_drive(dice, &record);
     if record.drive == Drive::Rest {
-        let faults = [Fault::RunAway, Fault::NotStarted, Fault::Long, Fault::Fast];
+        let faults: &[Fault] = match is_continuous(&settings) {
+            true => &[Fault::Long],
+            false => &[Fault::RunAway, Fault::NotStarted, Fault::Long, Fault::Fast],
+        };
         if dice.one_in(2) {
-            record.fault = dice.pick(&faults);
+            record.fault = dice.pick(faults);
         }
         let side = dice.pick(&[Side::Low, Side::High]);
         record.wait = Wait::to(side, any_up_to(dice, 0, 35_999));
@@ -146,8 +237,12 @@ fn any_record_within_limits_stays_so() {
     for _ in 0..30_000 {
         let mut record = any_record(&mut dice);
         for _ in 0..3 {
-            let ticked = tick(&record, &any_input(&mut dice));
+            let input = any_input(&mut dice);
+            let ticked = tick(&record, &input);
             assert_sound(&record, &ticked);
+            if is_continuous(&record.settings) {
+                assert_eq!(ticked, tick(&record, &contact_turned(&input)));
+            }
             record = ticked.next;
         }
     }

@@ -123,7 +123,7 @@ fn no_output_differs_by_the_nearest() {
 
 #[test]
 fn outputs_differ_if_readings_are_cut_off() {
-    let (by_field, any) = ticks_that_differ(250, f64::floor);
+    let (by_field, any) = ticks_that_differ(400, f64::floor);
     assert!(any > 1_000, "{any}");
     // The section, the trips, automatic and manual blocked, low and high.
     for field in [2, 6, 7, 8, 9, 10, 11, 12, 13, 14, 17, 18] {

@@ -2,7 +2,7 @@
 
 use reference::record::{within_limits, Drive, Fault, Record, Wait};
 use reference::sheet::{check, slot, Refusal, Settings, RANGES, SLOTS};
-use reference::values::{base_5a, BASE};
+use reference::values::{base_5a, base_continuous, BASE};
 
 fn refused(list: &[u32]) -> (u32, u32) {
     match check(list) {
@@ -19,6 +19,11 @@ fn changed(base: &Settings, slot: usize, number: u32) -> Settings {
 
 #[test]
 fn a_list_of_another_length() {
+    assert_eq!(SLOTS, 64);
+    for length in 0..=130 {
+        let list: Vec<u32> = BASE.into_iter().cycle().take(length).collect();
+        assert_eq!(refused(&list), if length == 64 { (0, 0) } else { (1, 0) }, "{length} numbers");
+    }
     assert_eq!(refused(&[]), (1, 0));
     assert_eq!(refused(&BASE[..SLOTS - 1]), (1, 0));
     assert_eq!(refused(&[BASE.as_slice(), &[0]].concat()), (1, 0));
@@ -51,6 +56,7 @@ fn paper_row(i: usize, k: u32) -> (u32, u32, u32) {
         51 => (0, 499_999, 1),
         52 => (1, 500_000, 1),
         53..=62 => (0, 40, 1),
+        63 => (0, 1, 1),
         _ => unreachable!(),
     }
 }
@@ -102,6 +108,37 @@ fn taps_must_be_in_order() {
     // A slot out of range comes before the order of the taps.
     list[62] = 41;
     assert_eq!(refused(&list), (2, 62));
+}
+
+#[test]
+fn without_the_contact_taps_cannot_be_counted() {
+    for (source, continuous, answer) in [
+        (0, 1, (0, 0)),
+        (1, 1, (0, 0)),
+        (2, 1, (0, 0)),
+        (3, 1, (5, 63)),
+        (4, 1, (5, 63)),
+        (3, 0, (0, 0)),
+        (4, 0, (0, 0)),
+        (3, 2, (2, 63)),
+        (5, 1, (2, 5)),
+    ] {
+        let mut list = changed(&BASE, slot::TAP_SOURCE, source);
+        list[slot::CONTINUOUS] = continuous;
+        assert_eq!(refused(&list), answer);
+    }
+}
+
+#[test]
+fn refusals_2_and_3_come_before_5() {
+    let list = base_continuous();
+    assert_eq!(refused(&list), (5, 63));
+    assert_eq!(refused(&changed(&list, slot::SLIDING, 41)), (2, 53));
+    assert_eq!(refused(&changed(&list, slot::N_L, 40)), (3, 49));
+    assert_eq!(refused(&changed(&list, slot::N_L, 21)), (3, 48));
+    let longer = [list.as_slice(), &[0]].concat();
+    assert_eq!(refused(&longer), (1, 0));
+    assert_eq!(refused(&list[..63]), (1, 0));
 }
 
 #[test]

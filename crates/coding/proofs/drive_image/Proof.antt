@@ -13,6 +13,9 @@ enum-known-d c = search needs
 direction-number-requires : tie.Need-direction-number-requires
 direction-number-requires c κs = search needs
 
+asked-number-requires : tie.Need-asked-number-requires
+asked-number-requires c κs = search needs
+
 enum-known-d-2 : tie.Need-enum-known-d-2
 enum-known-d-2 c = search needs
 
@@ -38,6 +41,7 @@ drive-image-spec =
     enum-told
     enum-known-d
     direction-number-requires
+    asked-number-requires
     enum-known-d-2
     direction-number-requires-2
     move-number-requires

@@ -3,6 +3,9 @@ use borrow.Author.Needs.{needs}
 use Rattle.regulator.proofs.act.Statement.{statement}
 use Rattle.regulator.proofs.act.Tie as tie
 
+finding-of-requires : tie.Need-finding-of-requires
+finding-of-requires c κs = search needs
+
 supervise-requires : tie.Need-supervise-requires
 supervise-requires c κs = search needs
 
@@ -25,6 +28,7 @@ pub act-spec : {M : Type 1} → statement M
 act-spec =
     tie.close
     (tie.spec
+    finding-of-requires
     supervise-requires
     block-requires
     memory-of-requires

@@ -1,7 +1,7 @@
 -- `sheet::judge` meets its contract.
 -- Assumes nothing.
 use borrow.Author.Needs.{needs}
-use Rattle.sheet.proofs.Answers.{slot-refused, ends-refused, pos-refused, not-refused}
+use Rattle.sheet.proofs.Answers.{slot-refused, ends-refused, pos-refused, count-refused, not-refused}
 use Rattle.sheet.proofs.judge.Statement.{statement}
 use Rattle.sheet.proofs.judge.Tie as tie
 
@@ -17,6 +17,12 @@ element-copy-out-left c = search needs
 element-copy-out-pos : tie.Need-element-copy-out-pos
 element-copy-out-pos c = search needs
 
+element-copy-out-source : tie.Need-element-copy-out-source
+element-copy-out-source c = search needs
+
+element-copy-out-continuous : tie.Need-element-copy-out-continuous
+element-copy-out-continuous c = search needs
+
 cast-slot : tie.Need-cast-slot
 cast-slot c = search needs
 
@@ -30,13 +36,16 @@ returns-2 : tie.Need-returns-2
 returns-2 c = search (needs, ends-refused)
 
 returns-3 : tie.Need-returns-3
-returns-3 c = search (needs, not-refused)
+returns-3 c = search (needs, count-refused)
+
+returns-4 : tie.Need-returns-4
+returns-4 c = search (needs, not-refused)
 
 cast-slot-3 : tie.Need-cast-slot-3
 cast-slot-3 c = search needs
 
-returns-4 : tie.Need-returns-4
-returns-4 c = search (needs, pos-refused)
+returns-5 : tie.Need-returns-5
+returns-5 c = search (needs, pos-refused)
 
 pub judge-spec : {M : Type 1} → statement M
 judge-spec =
@@ -46,10 +55,13 @@ judge-spec =
     element-copy-out-right
     element-copy-out-left
     element-copy-out-pos
+    element-copy-out-source
+    element-copy-out-continuous
     cast-slot
     returns
     cast-slot-2
     returns-2
     returns-3
+    returns-4
     cast-slot-3
-    returns-4)
+    returns-5)

@@ -6,6 +6,7 @@ use reference::input::{bit, Input, READINGS};
 use reference::reading::Reading;
 use reference::record::Record;
 use reference::scene::float_of;
+use reference::sheet::slot;
 use reference::tick::{tick, OUTPUTS};
 use reference::values::BASE;
 
@@ -28,6 +29,13 @@ pub fn fresh(changes: &[(usize, u32)]) -> Record {
         list[slot] = number;
     }
     Record::start(&list).expect("a sheet that is taken")
+}
+
+/// The fresh record of the base sheet for a drive without the contact, with T4
+/// 30 and some slots changed. T5 to T7 are short, since nothing goes by them.
+pub fn fresh_continuous(changes: &[(usize, u32)]) -> Record {
+    let without_contact = [(slot::CONTINUOUS, 1), (slot::T4, 30), (slot::T5, 20), (slot::T6, 25), (slot::T7, 0)];
+    fresh(&[&without_contact, changes].concat())
 }
 
 /// Breaker closed, manual, the voltage in the band, all organs quiet.

@@ -1,4 +1,4 @@
-use Rattle.acting.specs.Supervising.{supervisedOf, followedOf, clearedOf}
+use Rattle.acting.specs.Supervising.{supervisedOf, clearedOf}
 use borrow.Author.Needs.{needs}
 use Rattle.acting.proofs.supervising.supervise.Statement.{statement}
 use Rattle.acting.proofs.supervising.supervise.Tie as tie
@@ -6,11 +6,8 @@ use Rattle.acting.proofs.supervising.supervise.Tie as tie
 reset-requires : tie.Need-reset-requires
 reset-requires c κs = search needs
 
-contact-of-requires : tie.Need-contact-of-requires
-contact-of-requires c κs = search needs
-
-follow-requires : tie.Need-follow-requires
-follow-requires c κs = search needs
+followed-requires : tie.Need-followed-requires
+followed-requires c κs = search needs
 
 element-copy-out-latched : tie.Need-element-copy-out-latched
 element-copy-out-latched c = search needs
@@ -19,7 +16,7 @@ latched-requires : tie.Need-latched-requires
 latched-requires c κs = search needs
 
 returns : tie.Need-returns
-unfolding supervisedOf followedOf clearedOf
+unfolding supervisedOf clearedOf
 returns c = cc
 
 pub supervise-spec : {M : Type 1} → statement M
@@ -27,8 +24,7 @@ supervise-spec =
     tie.close
     (tie.spec
     reset-requires
-    contact-of-requires
-    follow-requires
+    followed-requires
     element-copy-out-latched
     latched-requires
     returns)

@@ -15,6 +15,9 @@ returns c = search made
 is-to-requires : tie.Need-is-to-requires
 is-to-requires c κs = search needs
 
+element-copy-out-continuous : tie.Need-element-copy-out-continuous
+element-copy-out-continuous c = search needs
+
 element-copy-out-result-2 : tie.Need-element-copy-out-result-2
 element-copy-out-result-2 c = search needs
 
@@ -35,6 +38,7 @@ delay-in-force-spec =
     element-copy-out-result
     returns
     is-to-requires
+    element-copy-out-continuous
     element-copy-out-result-2
     element-copy-out-result-3
     returns-2

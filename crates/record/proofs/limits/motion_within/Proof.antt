@@ -9,14 +9,8 @@ wait-ticks-requires c κs = search needs
 rests-requires : tie.Need-rests-requires
 rests-requires c κs = search needs
 
-element-copy-out-within : tie.Need-element-copy-out-within
-element-copy-out-within c = search needs
-
-element-copy-out-within-2 : tie.Need-element-copy-out-within-2
-element-copy-out-within-2 c = search needs
-
-within-requires : tie.Need-within-requires
-within-requires c κs = search needs
+kind-within-requires : tie.Need-kind-within-requires
+kind-within-requires c κs = search needs
 
 is-fault-requires : tie.Need-is-fault-requires
 is-fault-requires c κs = search needs
@@ -37,9 +31,7 @@ motion-within-spec =
     (tie.spec
     wait-ticks-requires
     rests-requires
-    element-copy-out-within
-    element-copy-out-within-2
-    within-requires
+    kind-within-requires
     is-fault-requires
     element-copy-out-latch-within
     latch-within-requires

@@ -1,7 +1,7 @@
-use Rattle.acting.specs.Commanding.{blockedOf}
+use Rattle.acting.specs.Judging.{blockedOf}
 use borrow.Author.Needs.{needs}
-use Rattle.acting.proofs.commanding.block.Statement.{statement}
-use Rattle.acting.proofs.commanding.block.Tie as tie
+use Rattle.acting.proofs.judging.block.Statement.{statement}
+use Rattle.acting.proofs.judging.block.Tie as tie
 
 is-fault-requires : tie.Need-is-fault-requires
 is-fault-requires c κs = search needs

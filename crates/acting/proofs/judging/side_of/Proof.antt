@@ -1,7 +1,7 @@
 use Rattle.acting.proofs.Parts.{parts}
 use borrow.Author.Needs.{needs}
-use Rattle.acting.proofs.commanding.side_of.Statement.{statement}
-use Rattle.acting.proofs.commanding.side_of.Tie as tie
+use Rattle.acting.proofs.judging.side_of.Statement.{statement}
+use Rattle.acting.proofs.judging.side_of.Tie as tie
 
 enum-told : tie.Need-enum-told
 enum-told c = search needs

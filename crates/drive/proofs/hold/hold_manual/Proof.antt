@@ -1,0 +1,41 @@
+use Rattle.drive.proofs.States.{states}
+use Rattle.drive.specs.Hold.{manualOf}
+use borrow.Author.Needs.{needs}
+use Rattle.drive.proofs.hold.hold_manual.Statement.{statement}
+use Rattle.drive.proofs.hold.hold_manual.Tie as tie
+
+add-next : tie.Need-add-next
+add-next c = search needs
+
+unmoved-requires : tie.Need-unmoved-requires
+unmoved-requires c κs = search needs
+
+released-requires : tie.Need-released-requires
+released-requires c κs = search needs
+
+released-requires-2 : tie.Need-released-requires-2
+released-requires-2 c κs = search needs
+
+returns : tie.Need-returns
+unfolding manualOf
+returns c = search states
+
+returns-2 : tie.Need-returns-2
+unfolding manualOf
+returns-2 c = search states
+
+returns-3 : tie.Need-returns-3
+unfolding manualOf
+returns-3 c = search states
+
+pub hold-manual-spec : {M : Type 1} → statement M
+hold-manual-spec =
+    tie.close
+    (tie.spec
+    add-next
+    unmoved-requires
+    released-requires
+    released-requires-2
+    returns
+    returns-2
+    returns-3)
