@@ -6,9 +6,9 @@ use native.Mathlib.Omega.{arith}
 use mathlib.Core.Path.{_≡_, refl}
 use mathlib.Core.Bool.{Bool, true, false, true≢false, false≢true}
 use mathlib.Core.List.{List, [], _∷_}
-use mathlib.Core.Logic.{_⊎_, inl, inr, ⊎-elim}
+use mathlib.Core.Logic.{inl, inr, ⊎-elim}
 use lib.ListN.{replicate, set}
-use Rattle.slots.specs.Slots.{slot, inService, continuous}
+use Rattle.slots.specs.Slots.{slot, inService}
 use Rattle.showing.specs.Showing.{fieldCount}
 use Rattle.ways.specs.declared.Direction.the-variants.{Raise, Lower}
 use Rattle.input.specs.Brought.{bitOf}
@@ -135,7 +135,7 @@ module _ (sheet : List ℕ) (s : slot sheet inService ≡ 1) where
         noFast = refl;
       }
 
-  lasts-high : (other contacts lower moving : ℕ) → bitOf contacts 13 ≡ false → bitOf contacts 14 ≡ true
+  pub lasts-high : (other contacts lower moving : ℕ) → bitOf contacts 13 ≡ false → bitOf contacts 14 ≡ true
       → Lasting Lower (highUnder sheet other contacts lower moving)
   lasts-high other contacts lower moving o a =
       record {
@@ -152,33 +152,24 @@ module _ (sheet : List ℕ) (s : slot sheet inService ≡ 1) where
         noFast = refl;
       }
 
-  -- waiting ticks to the low side and to the high, with a command or without
-  pub waits-low : (delay other contacts raise moving : ℕ) → bitOf contacts 13 ≡ false → bitOf contacts 14 ≡ true
-      → (slot sheet continuous ≡ 1) ⊎ (bitOf contacts 1 ≡ false) → Waiting Raise (lowUnder sheet true delay other contacts raise moving)
-  waits-low delay other contacts raise moving o a c =
-      record { lasting = lasts-low true delay other contacts raise moving o a; rest = refl; contact = c }
-
-  pub waits-high : (other contacts lower moving : ℕ) → bitOf contacts 13 ≡ false → bitOf contacts 14 ≡ true
-      → (slot sheet continuous ≡ 1) ⊎ (bitOf contacts 1 ≡ false) → Waiting Lower (highUnder sheet other contacts lower moving)
-  waits-high other contacts lower moving o a c =
-      record { lasting = lasts-high other contacts lower moving o a; rest = refl; contact = c }
-
 pub low-lasts : (rest : Bool) (delay contacts raise moving : ℕ) → bitOf contacts 13 ≡ false → bitOf contacts 14 ≡ true
     → Lasting Raise (low rest delay contacts raise moving)
 low-lasts rest delay contacts raise moving o a = lasts-low variedSheet refl rest delay 23 contacts raise moving o a
 
+-- waiting ticks to the low side and to the high, with a command or without: with an open contact
 pub low-waiting : (delay raise moving : ℕ) → Waiting Raise (low true delay openContact raise moving)
-low-waiting delay raise moving = waits-low variedSheet refl delay 23 openContact raise moving refl refl (inr refl)
+low-waiting delay raise moving = record { lasting = low-lasts true delay openContact raise moving refl refl; rest = refl; contact = inr refl }
 
 pub high-waiting : (lower moving : ℕ) → Waiting Lower (high lower moving)
-high-waiting lower moving = waits-high variedSheet refl 23 0x4401 lower moving refl refl (inr refl)
+high-waiting lower moving = record { lasting = lasts-high variedSheet refl 23 0x4401 lower moving refl refl; rest = refl; contact = inr refl }
 
 -- without a switching contact, whatever bit 1 is
 pub held-waiting : (contacts raise moving : ℕ) → bitOf contacts 13 ≡ false → bitOf contacts 14 ≡ true → Waiting Raise (heldLow true contacts raise moving)
-held-waiting contacts raise moving o a = waits-low heldSheet refl 25 25 contacts raise moving o a (inl refl)
+held-waiting contacts raise moving o a =
+    record { lasting = lasts-low heldSheet refl true 25 25 contacts raise moving o a; rest = refl; contact = inl refl }
 
 pub held-high-waiting : (lower moving : ℕ) → Waiting Lower (heldHigh lower moving)
-held-high-waiting lower moving = waits-high heldSheet refl 25 0x4403 lower moving refl refl (inl refl)
+held-high-waiting lower moving = record { lasting = lasts-high heldSheet refl 25 0x4403 lower moving refl refl; rest = refl; contact = inl refl }
 
 -- no waiting ticks: in band; at the move's end, which did not start at rest; a closed contact, where the drive has one; the end as 'long'
 pub band-not : Waiting Raise inBand → ⊥

@@ -70,12 +70,13 @@ fn hold_automatic(d: Direction, age: u32, x: Holding) -> Followed
 fn hold_manual(d: Direction, age: u32, x: Holding) -> Followed
     ensures { λ r. ⌜ r ≡ manualOf d age x ⌝ }
 {
-    if age < x.t4 {
-        let next = age + 1;
-        if next < x.t4 {
+    let t4 = x.t4;
+    if age < t4 {
+        let older = age + 1;
+        if older < t4 {
             follow::unmoved(Drive::Asked {
                 direction: d,
-                age: next,
+                age: older,
                 automatic: false,
             })
         } else {

@@ -1,5 +1,5 @@
 //! Ticks per second on one recording: the proved library through its C boundary, lent and by value, and the second program.
-//! `benchmark RUNS [lent|value|second]`: all three, or one alone (for a count of instructions).
+//! `benchmark SEED RUNS [lent|value|second]`: all three, or one alone (for a count of instructions), on the recording of a seed.
 
 use std::time::Instant;
 
@@ -9,15 +9,16 @@ use reference::dice::Dice;
 use reference::input::Input;
 use reference::record::Record;
 use reference::recording::{tick_from_bytes, TICK_BYTES};
+use reference::sheet;
 
 const TICKS: usize = 20_000;
 
-/// A sheet and a recording with commands, moves, faults and trips in it.
-fn scene() -> (Record, Vec<Input>) {
+/// A sheet and a recording with commands, faults and trips in it.
+fn scene(seed: u64) -> (Record, Vec<Input>) {
     let folder = std::env::temp_dir().join(format!("avr-benchmark-{}", std::process::id()));
     std::fs::create_dir_all(&folder).expect("a temporary folder");
     let (sheet, recording) = (folder.join("sheet"), folder.join("recording"));
-    reference::make::make(3, TICKS as u64, &sheet, &recording).expect("a made recording");
+    reference::make::make(seed, TICKS as u64, &sheet, &recording).expect("a made recording");
     let list = reference::recording::sheet_from_bytes(&std::fs::read(&sheet).expect("the sheet"));
     let bytes = std::fs::read(&recording).expect("the recording");
     std::fs::remove_dir_all(&folder).ok();
@@ -75,9 +76,10 @@ fn timed(runs: u32, way: impl Fn(u32) -> u64) -> (f64, u64) {
 
 fn main() {
     let words: Vec<String> = std::env::args().collect();
-    let runs: u32 = words.get(1).and_then(|w| w.parse().ok()).unwrap_or(20);
-    let only = words.get(2).map(String::as_str);
-    let (record, inputs) = scene();
+    let seed: u64 = words.get(1).and_then(|w| w.parse().ok()).unwrap_or(5);
+    let runs: u32 = words.get(2).and_then(|w| w.parse().ok()).unwrap_or(20);
+    let only = words.get(3).map(String::as_str);
+    let (record, inputs) = scene(seed);
     let image = image_of(&record);
     let mut dice = Dice::new(1);
     let ticks: Vec<Brought> = inputs.iter().map(|i| brought(i, &mut dice)).collect();
@@ -90,7 +92,8 @@ fn main() {
             let (b, y) = timed(runs, |n| by_value(&image, &ticks, n));
             let (c, z) = timed(runs, |n| second(&record, &inputs, n));
             assert!(x == y && y == z, "the three ways differ");
-            println!("ticks: {} a way", u64::from(runs) * TICKS as u64);
+            let kind = if sheet::is_continuous(&record.settings) { "without" } else { "with" };
+            println!("a drive {kind} a switching contact, {} ticks a way", u64::from(runs) * TICKS as u64);
             for (name, ns) in [("proved, lent", a), ("proved, by value", b), ("second program", c)] {
                 println!("{name:18} {ns:7.1} ns a tick, {:9.0} ticks a second", 1e9 / ns);
             }

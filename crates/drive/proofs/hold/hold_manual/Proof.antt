@@ -4,8 +4,8 @@ use borrow.Author.Needs.{needs}
 use Rattle.drive.proofs.hold.hold_manual.Statement.{statement}
 use Rattle.drive.proofs.hold.hold_manual.Tie as tie
 
-add-next : tie.Need-add-next
-add-next c = search needs
+add-older : tie.Need-add-older
+add-older c = search needs
 
 unmoved-requires : tie.Need-unmoved-requires
 unmoved-requires c κs = search needs
@@ -32,7 +32,7 @@ pub hold-manual-spec : {M : Type 1} → statement M
 hold-manual-spec =
     tie.close
     (tie.spec
-    add-next
+    add-older
     unmoved-requires
     released-requires
     released-requires-2
