@@ -95,7 +95,7 @@ fn check_drive(columns: &[Column]) -> Result<(), String> {
     match (setting, has_drive(columns)) {
         (Some(column), false) => Err(format!("the column `{}` needs a column `drive`", name(*column))),
         (_, true) if columns.contains(&Column::Contact(SWITCHING)) => {
-            Err("`switching` and `drive` are both there: the simulated drive moves the switching contact".to_string())
+            Err("`switching` and `drive` are both there: the simulated drive gives the switching contact".to_string())
         }
         _ => Ok(()),
     }

@@ -60,7 +60,7 @@ pub fn scenario_write(words: &Words) -> Result<Said, Errors> {
 /// The recording of a scenario that answers a unit.
 fn recorded(sheet: &Sheet, scenario: &Scenario) -> Result<Vec<u8>, Errors> {
     let mut bytes = Vec::with_capacity(scenario.ticks as usize * recording::BYTES);
-    let source = Source::Scenario(Player::new(scenario));
+    let source = Source::Scenario(Player::with_drive(scenario, &sheet.list));
     run::run(started(sheet)?, source, &mut Progress::usual(), |brought| recording::push(&mut bytes, brought))?;
     Ok(bytes)
 }
@@ -90,7 +90,7 @@ pub fn run(words: &Words) -> Result<Said, Errors> {
         false => played(&sheet, &file)?,
     };
     let title = words.option("title").unwrap_or_else(|| last_part(name));
-    let table = table::table(&history, !is_recording);
+    let table = table::table(&history, &sheet.list, !is_recording);
     let mut said = Said::default();
     let mut targets = Vec::new();
     match words.option("table") {
@@ -119,7 +119,8 @@ fn last_part(name: &str) -> &str {
 
 fn played(sheet: &Sheet, file: &File) -> Result<History, Errors> {
     let scenario = scenario::read(file)?;
-    run::run(started(sheet)?, Source::Scenario(Player::new(&scenario)), &mut Progress::usual(), |_| ())
+    let source = Source::Scenario(Player::with_drive(&scenario, &sheet.list));
+    run::run(started(sheet)?, source, &mut Progress::usual(), |_| ())
 }
 
 fn replayed(sheet: &Sheet, file: &File) -> Result<History, Errors> {

@@ -1,10 +1,23 @@
-//! The simulated drive of the tap changer, which answers the unit's commands, well or badly.
+//! The simulated drive of the tap changer, which answers the unit's commands, well or badly. This one has a switching contact;
+//! `motor.rs` has the one without.
 
 /// Where a move goes.
 #[derive(Clone, Copy, Debug, PartialEq, Eq)]
 pub enum Way {
     Raise,
     Lower,
+}
+
+const LOWEST: u8 = 1;
+const HIGHEST: u8 = 79;
+
+impl Way {
+    pub fn tap_after(self, tap: u8) -> u8 {
+        match self {
+            Way::Raise => (tap + 1).min(HIGHEST),
+            Way::Lower => (tap - 1).max(LOWEST),
+        }
+    }
 }
 
 /// What the drive does.
@@ -14,11 +27,22 @@ pub enum Temper {
     Ok,
     /// Hears no command.
     DoesNotStart,
-    /// A move does not end.
+    /// A move does not end; without a switching contact, not with its command.
     RunsOn,
     /// Starts one move without a command where the word first stands; answers commands.
     SelfRaise,
     SelfLower,
+}
+
+impl Temper {
+    /// The way of a move without a command, on the tick on which its word first stands.
+    pub fn alone(self, before: Option<Temper>) -> Option<Way> {
+        match self {
+            Temper::SelfRaise if before != Some(self) => Some(Way::Raise),
+            Temper::SelfLower if before != Some(self) => Some(Way::Lower),
+            _ => None,
+        }
+    }
 }
 
 /// The words of a scenario's column `drive`.
@@ -71,35 +95,49 @@ pub struct Seen {
     pub reset: bool,
 }
 
-/// The drive. Its supply goes off a moment after the unit's supply trip, and on again with the scenario's reset.
-pub struct Drive {
-    pub tap: u8,
-    pub supply_off: bool,
+/// The drive's supply: off a moment after the unit's supply trip, and on again with the scenario's reset.
+#[derive(Default)]
+pub struct Supply {
+    pub off: bool,
     /// Ticks since the supply trip came.
     tripped: Option<u32>,
+}
+
+/// Ticks from the supply trip until the supply is off: 0.1 s.
+const BREAKER: u32 = 20;
+
+impl Supply {
+    pub fn tick(&mut self, seen: Seen) {
+        self.tripped = match self.tripped {
+            _ if seen.reset => None,
+            Some(ticks) => Some(ticks.saturating_add(1)),
+            None => seen.trip.then_some(1),
+        };
+        self.off = self.tripped.is_some_and(|ticks| ticks >= BREAKER);
+    }
+}
+
+/// The drive.
+pub struct Drive {
+    pub tap: u8,
+    pub supply: Supply,
     state: State,
     commanded: bool,
     temper: Option<Temper>,
 }
 
-const LOWEST: u8 = 1;
-const HIGHEST: u8 = 79;
-
-/// Ticks from the supply trip until the supply is off: 0.1 s.
-const BREAKER: u32 = 20;
-
 impl Drive {
     pub fn new(tap: u8) -> Drive {
-        Drive { tap, supply_off: false, tripped: None, state: State::Quiet, commanded: false, temper: None }
+        Drive { tap, supply: Supply::default(), state: State::Quiet, commanded: false, temper: None }
     }
 
     /// One tick: whether the switching contact is closed.
     pub fn tick(&mut self, nature: &Nature, seen: Seen) -> bool {
-        self.supply(seen);
+        self.supply.tick(seen);
         let fresh = seen.command.filter(|_| !self.commanded);
         self.commanded = seen.command.is_some();
-        let alone = self.alone(nature.temper);
-        if self.supply_off {
+        let alone = nature.temper.alone(self.temper.replace(nature.temper));
+        if self.supply.off {
             self.state = State::Quiet;
             return false;
         }
@@ -107,26 +145,6 @@ impl Drive {
             self.state = stir(nature, fresh, alone);
         }
         self.step(nature, seen.command)
-    }
-
-    fn supply(&mut self, seen: Seen) {
-        self.tripped = match self.tripped {
-            _ if seen.reset => None,
-            Some(ticks) => Some(ticks.saturating_add(1)),
-            None => seen.trip.then_some(1),
-        };
-        self.supply_off = self.tripped.is_some_and(|ticks| ticks >= BREAKER);
-    }
-
-    /// The way of a move without a command, on the tick on which its word first stands.
-    fn alone(&mut self, temper: Temper) -> Option<Way> {
-        let fresh = self.temper != Some(temper);
-        self.temper = Some(temper);
-        match temper {
-            Temper::SelfRaise if fresh => Some(Way::Raise),
-            Temper::SelfLower if fresh => Some(Way::Lower),
-            _ => None,
-        }
     }
 
     fn step(&mut self, nature: &Nature, command: Option<Way>) -> bool {
@@ -158,10 +176,7 @@ impl Drive {
 
     /// The next tap; from a sliding one the drive soon goes on by itself.
     fn arrive(&mut self, nature: &Nature, way: Way) {
-        self.tap = match way {
-            Way::Raise => (self.tap + 1).min(HIGHEST),
-            Way::Lower => (self.tap - 1).max(LOWEST),
-        };
+        self.tap = way.tap_after(self.tap);
         self.state = match nature.sliding.contains(&self.tap) {
             true => State::Starting { way, left: nature.start.max(1) - 1, alone: true },
             false => State::Quiet,

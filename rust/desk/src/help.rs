@@ -27,17 +27,19 @@ usage: avr sheet check FILE [-o SHEET]
 pub const SHEET_CHECK: &str = "\
 usage: avr sheet check FILE [-o SHEET]
 
-Says whether the unit takes the sheet in FILE, and if not, why: name, value, range and step, and the refusal's number and slot.
+Says whether the unit takes the sheet in FILE, and if not, why: name, value, range and step or what else it must be, and the
+refusal's number and slot.
 With -o, --output: writes the binary SHEET, a number of 32 bits for each setting, least byte first.
 
 FILE is text: `name = value` a line, `#` begins a comment. The names are those of the manual's table of settings; one that is
 left out has its default. Values are in V, A and s, or words:
 
     XB1 = on            # in service
+    XB2 = continuous    # for a drive without a switching contact; impulse is for one with it
     I_nom = 5 A         # the module
     U_supp1 = 100.5 V   # or 100.5
     T1 = 120 s          # or 120, 120000 ms, 24000 ticks
-    XB6 = counted       # off, BCD, sensor, counted, counted-reversed
+    XB6 = sensor        # off, BCD, sensor; with XB2 = impulse also counted, counted-reversed
     N1 = empty          # or a sliding tap
     T2 = raw 12000      # the slot's number as it is in the SHEET
 
@@ -80,12 +82,21 @@ comment line. A column that is not there is 0.
   BCD             the tap on the lines, `24`, or the lines themselves, `0x1a`
   sensor          0 to 255
   drive           the simulated drive: ok, does-not-start, runs-on (a move does not end), self-raise, self-lower (closes once
-                  by itself). It moves the switching contact, and gives BCD and sensor where these have no column.
+                  by itself). It gives the switching contact, and BCD and sensor where these have no column.
   drive_start     seconds from a command to the contact (0.5)
-  drive_run       seconds the contact stays closed (3)
+  drive_run       seconds the contact stays closed, after which the tap is there (3)
   drive_tap       the tap at the start (20)
   drive_step      volts that one tap adds to U_AB, which is the voltage at drive_tap (1.5)
   drive_sliding   taps from which the drive goes on by itself, `9 10`, or none (none)
+
+With XB2 = continuous in the sheet the drive has no switching contact, which stays open. It moves while its command is on: it
+begins drive_start after the command, and is one tap further after each drive_run. When the command goes off it stops, and gives
+up a tap that is not done. Of such a drive
+
+  does-not-start  hears no command, so that an automatic one ends as 'long'
+  runs-on         does not stop with its command, nor for the other one; only its supply stops it
+  self-raise      and self-lower take one tap by themselves; no fault tells of it
+  drive_sliding   are taps at which it does not stop, but goes on to the next
 
 The drive's supply goes off 0.1 s after the unit's supply trip, which ends a move, and is on again with `reset`.
 ";

@@ -5,7 +5,9 @@ use std::ops::RangeInclusive;
 use library::ORGANS;
 
 use crate::inputs::{is_on, CONTACTS, SWITCHING};
-use crate::outputs::{BLOCKS, FAULTS, HIGH, LOW, LOWER, RAISE, RANGE_ERROR, SHORT, SUPPLY_TRIP, TRIPS, WORN, WRONG_CODE};
+use crate::outputs::{
+    short, BLOCKS, FAULTS, HIGH, LOW, LOWER, RAISE, RANGE_ERROR, SHORT, SUPPLY_TRIP, TRIPS, WORN, WRONG_CODE,
+};
 use crate::run::{History, Signal};
 use crate::svg::{BLACK, BLUE, GREEN, ORANGE, PURPLE, SKY, VERMILLION, YELLOW};
 
@@ -29,15 +31,19 @@ pub struct Lane {
 /// Lanes that belong together.
 pub type Group = Vec<Lane>;
 
-/// What is regulated: low and high, commands, the switching contact.
-pub fn moving(history: &History) -> Group {
-    vec![
+/// What is regulated: low and high, commands, the switching contact if the drive has one.
+pub fn moving(history: &History, continuous: bool) -> Group {
+    let contact = (!continuous).then(|| {
+        let label = CONTACTS[SWITCHING as usize].name.to_string() + " contact";
+        lane(label, BLACK, contact_on(history, SWITCHING))
+    });
+    let lanes = [
         output(history, LOW, "voltage low", ORANGE),
         output(history, HIGH, "voltage high", PURPLE),
         Lane { tip: Tip::Up, timed: true, ..output(history, RAISE, "raise command", BLUE) },
         Lane { tip: Tip::Down, timed: true, ..output(history, LOWER, "lower command", VERMILLION) },
-        lane(CONTACTS[SWITCHING as usize].name.to_string() + " contact", BLACK, contact_on(history, SWITCHING)),
-    ]
+    ];
+    lanes.into_iter().chain(contact).collect()
 }
 
 /// The four blocks.
@@ -46,15 +52,15 @@ pub fn blocks(history: &History) -> Group {
 }
 
 /// Trips and faults: a lane for each that came, and one for each kind if none did; the supply trip.
-pub fn alarms(history: &History) -> Group {
-    let mut group = some_or_one(history, TRIPS..=TRIPS + ORGANS - 1, "trip", PURPLE);
-    group.extend(some_or_one(history, FAULTS, "fault", VERMILLION));
+pub fn alarms(history: &History, continuous: bool) -> Group {
+    let mut group = some_or_one(history, continuous, TRIPS..=TRIPS + ORGANS - 1, "trip", PURPLE);
+    group.extend(some_or_one(history, continuous, FAULTS, "fault", VERMILLION));
     group.push(Lane { timed: true, ..output(history, SUPPLY_TRIP, SHORT[SUPPLY_TRIP], VERMILLION) });
     group
 }
 
-fn some_or_one(history: &History, fields: RangeInclusive<usize>, kind: &str, colour: &'static str) -> Group {
-    let lanes = fields.map(|field| output(history, field, &format!("{kind}: {}", SHORT[field]), colour));
+fn some_or_one(history: &History, continuous: bool, fields: RangeInclusive<usize>, kind: &str, colour: &'static str) -> Group {
+    let lanes = fields.map(|field| output(history, field, &format!("{kind}: {}", short(field, continuous)), colour));
     let came: Group = lanes.filter(|lane| !lane.on.is_empty()).map(|lane| Lane { timed: true, ..lane }).collect();
     match came.is_empty() {
         true => vec![lane(format!("{kind}s: none"), colour, Vec::new())],
@@ -68,9 +74,9 @@ pub fn notes(history: &History) -> Group {
     lanes.into_iter().filter(|lane| !lane.on.is_empty()).collect()
 }
 
-/// Contacts and keys that are ever on, but for the switching contact.
-pub fn contacts(history: &History) -> Group {
-    let bits = (0..CONTACTS.len() as u32).filter(|bit| *bit != SWITCHING);
+/// Contacts and keys that are ever on, but for the switching contact that has a lane of its own.
+pub fn contacts(history: &History, continuous: bool) -> Group {
+    let bits = (0..CONTACTS.len() as u32).filter(|bit| *bit != SWITCHING || continuous);
     let lanes = bits.map(|bit| lane(format!("in: {}", CONTACTS[bit as usize].name), GREEN, contact_on(history, bit)));
     lanes.filter(|lane| !lane.on.is_empty()).collect()
 }

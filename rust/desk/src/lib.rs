@@ -14,6 +14,7 @@ pub mod help;
 pub mod inputs;
 pub mod lanes;
 pub mod limits;
+pub mod motor;
 pub mod names;
 pub mod outputs;
 pub mod panel;

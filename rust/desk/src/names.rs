@@ -7,11 +7,13 @@ use crate::same::same;
 
 pub const MODULE: usize = at("I_nom");
 pub const COMPENSATION: usize = at("XB4");
+pub const TAP_SOURCE: usize = at("XB6");
 pub const U_SUPP: usize = at("U_supp1");
 pub const D_U: usize = at("dU_set");
 pub const N_POS: usize = at("N_pos");
 pub const N_R: usize = at("N_R");
 pub const N_L: usize = at("N_L");
+pub const CONTINUOUS: usize = at("XB2");
 
 /// The slot of a name of the table, found while the tool is compiled.
 pub const fn at(name: &str) -> usize {
@@ -94,7 +96,7 @@ pub const TABLE: [Slot; SLOTS] = [
     seconds("T1", "delay of the first automatic command", 20, 36_000, 24_000),
     seconds("T2", "delay of a repeated automatic command", 20, 36_000, 12_000),
     seconds("T3", "delay of an accelerated lower", 20, 36_000, 4_000),
-    seconds("T4", "longest move of the drive", 20, 36_000, 3_000),
+    seconds("T4", "longest move of the drive, or longest continuous command", 20, 36_000, 3_000),
     seconds("T5", "longest wait for the drive to start", 20, 36_000, 1_000),
     seconds("T6", "shortest move of the drive", 0, 36_000, 0),
     seconds("T7", "a command stays so long after the move began", 0, 36_000, 0),

@@ -19,7 +19,9 @@ pub const LOW: usize = at("low");
 pub const HIGH: usize = at("high");
 /// From the first fault to the last.
 pub const FAULTS: RangeInclusive<usize> = at("run-away")..=at("fast move");
+pub const LONG: usize = at("long move");
 pub const SUPPLY_TRIP: usize = at("supply trip");
+pub const BUSY: usize = at("drive busy");
 pub const OPERATIONS: usize = at("operations");
 pub const WORN: usize = at("worn: N_max reached");
 
@@ -96,12 +98,32 @@ const WORDS: [(&str, &str); FIELDS] = [
     ("automatic mode", "manual mode"),
 ];
 
-/// A field that became `now`, in words.
-pub fn words(field: usize, now: u32) -> String {
+/// Fields with other words without a switching contact, where only the command is known: the short name, on and off again.
+const UNSEEN: [(usize, &str, (&str, &str)); 2] = [
+    (LONG, "long command", ("FAULT: long command", "fault cleared: long command")),
+    (BUSY, "drive asked", ("drive asked", "drive not asked")),
+];
+
+/// The short name of a field and its words, for the kind of regulation.
+fn named(field: usize, continuous: bool) -> (&'static str, (&'static str, &'static str)) {
+    match UNSEEN.iter().find(|(unseen, ..)| continuous && *unseen == field) {
+        Some((_, short, words)) => (short, *words),
+        None => (SHORT[field], WORDS[field]),
+    }
+}
+
+/// The short name of a field, for the kind of regulation.
+pub fn short(field: usize, continuous: bool) -> &'static str {
+    named(field, continuous).0
+}
+
+/// A field that became `now`, in words, for the kind of regulation.
+pub fn words(field: usize, now: u32, continuous: bool) -> String {
+    let (on, off) = named(field, continuous).1;
     match (field, now) {
         (TAP, tap) if tap > 0 => format!("tap {tap}"),
         (OPERATIONS, operations) if operations > 0 => format!("operations {operations}"),
-        (_, 0) => WORDS[field].1.to_string(),
-        _ => WORDS[field].0.to_string(),
+        (_, 0) => off.to_string(),
+        _ => on.to_string(),
     }
 }

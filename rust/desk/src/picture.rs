@@ -9,6 +9,7 @@ use crate::outputs::TAP;
 use crate::panel::{self, Label, Series};
 use crate::run::History;
 use crate::scale::{mark_text, TimeScale, ValueScale};
+use crate::sheet::is_continuous;
 use crate::svg::*;
 use crate::value;
 
@@ -35,27 +36,34 @@ struct Picture<'a> {
 pub fn picture(history: &History, list: &[u32], title: &str) -> String {
     let time = TimeScale { left: LEFT, width: WIDTH - LEFT - RIGHT, ticks: history.ticks };
     let mut picture = Picture { svg: Svg::new(), history, list, time, y: TOP };
-    let height = height(history);
+    let height = height(history, list);
     picture.grid(height - 50.0);
     picture.head(title);
     picture.voltage();
     picture.others();
     picture.lanes();
     picture.axis(height - 50.0);
-    let description = "Voltage against its band, commands, the switching contact, the tap, blocks, trips and faults over time.";
-    picture.svg.document(WIDTH, height, title, description)
+    picture.svg.document(WIDTH, height, title, description(list))
+}
+
+fn description(list: &[u32]) -> &'static str {
+    match is_continuous(list) {
+        true => "Voltage against its band, commands, the tap, blocks, trips and faults over time.",
+        false => "Voltage against its band, commands, the switching contact, the tap, blocks, trips and faults over time.",
+    }
 }
 
 /// Everything below the voltage, in the order in which it is drawn.
-fn groups(history: &History) -> Vec<Group> {
-    let groups = [lanes::moving(history), Group::new(), lanes::blocks(history), lanes::alarms(history)];
-    let optional = [lanes::notes(history), lanes::contacts(history)];
+fn groups(history: &History, list: &[u32]) -> Vec<Group> {
+    let continuous = is_continuous(list);
+    let groups = [lanes::moving(history, continuous), Group::new(), lanes::blocks(history), lanes::alarms(history, continuous)];
+    let optional = [lanes::notes(history), lanes::contacts(history, continuous)];
     groups.into_iter().chain(optional.into_iter().filter(|group| !group.is_empty())).collect()
 }
 
-fn height(history: &History) -> f64 {
+fn height(history: &History, list: &[u32]) -> f64 {
     let panels = VOLTAGE_HEIGHT + GAP + small_panels(history).len() as f64 * (SMALL_HEIGHT + GAP);
-    let lanes: f64 = groups(history).iter().map(|group| group.len().max(1) as f64 * LANE + GAP).sum();
+    let lanes: f64 = groups(history, list).iter().map(|group| group.len().max(1) as f64 * LANE + GAP).sum();
     TOP + panels + lanes + 50.0
 }
 
@@ -82,7 +90,11 @@ impl<'a> Picture<'a> {
     /// The settings that the picture hangs on.
     fn settings(&self) -> String {
         let compensation = if self.list[COMPENSATION] == 1 { Some("U_comp") } else { None };
-        let names = ["U_supp1", "dU_set", "T1", "T2", "T3", "T4", "T5", "T6", "T7", "T8"].iter().chain(compensation.iter());
+        let usual: &[&str] = match is_continuous(self.list) {
+            true => &["XB2", "U_supp1", "dU_set", "T1", "T3", "T4", "T8"],
+            false => &["U_supp1", "dU_set", "T1", "T2", "T3", "T4", "T5", "T6", "T7", "T8"],
+        };
+        let names = usual.iter().chain(compensation.iter());
         let one = |name: &&str| {
             let slot = crate::names::find(name).expect("a name of the table");
             format!("{name} {}", value::text(&TABLE[slot], self.list[slot]))
@@ -171,7 +183,7 @@ impl<'a> Picture<'a> {
     }
 
     fn lanes(&mut self) {
-        for group in groups(self.history) {
+        for group in groups(self.history, self.list) {
             if group.is_empty() {
                 self.tap();
             }

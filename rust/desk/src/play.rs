@@ -1,4 +1,4 @@
-//! What each tick brings: a scenario, with its drive if it has one, or a recording.
+//! What each tick brings: a scenario, with its drive if it has one, or a recording. The sheet says which kind of drive.
 
 use library::{Brought, Sample, FIELDS, INVALID};
 
@@ -6,8 +6,10 @@ use crate::cells::lines_of;
 use crate::columns::Column;
 use crate::drive::{Drive, Nature, Seen, Way};
 use crate::inputs::{is_on, with, RESET, SUPPLY_OFF, SWITCHING, U_AB};
+use crate::motor::Motor;
 use crate::outputs::{LOWER, RAISE, SUPPLY_TRIP};
 use crate::scenario::Scenario;
+use crate::sheet::is_continuous;
 
 /// Where ticks come from.
 pub enum Source<'a> {
@@ -32,25 +34,68 @@ impl Source<'_> {
     }
 }
 
+/// The simulated drive, with a switching contact or without.
+enum Simulated {
+    Drive(Drive),
+    Motor(Motor),
+}
+
+/// What a drive shows on a tick.
+struct Shown {
+    switching: bool,
+    supply_off: bool,
+    tap: u8,
+}
+
+impl Simulated {
+    /// The kind that the sheet `list` regulates.
+    fn new(list: &[u32], tap: u8) -> Simulated {
+        match is_continuous(list) {
+            true => Simulated::Motor(Motor::new(tap)),
+            false => Simulated::Drive(Drive::new(tap)),
+        }
+    }
+
+    fn tick(&mut self, nature: &Nature, seen: Seen) -> Shown {
+        match self {
+            Simulated::Drive(drive) => {
+                let switching = drive.tick(nature, seen);
+                Shown { switching, supply_off: drive.supply.off, tap: drive.tap }
+            }
+            Simulated::Motor(motor) => {
+                motor.tick(nature, seen);
+                Shown { switching: false, supply_off: motor.supply.off, tap: motor.tap }
+            }
+        }
+    }
+}
+
 /// A scenario that is played.
 pub struct Player<'a> {
     scenario: &'a Scenario,
     row: usize,
-    drive: Option<Drive>,
+    drive: Option<Simulated>,
     bcd_given: bool,
     sensor_given: bool,
 }
 
 impl<'a> Player<'a> {
+    /// The rows alone.
     pub fn new(scenario: &'a Scenario) -> Player<'a> {
-        let first = &scenario.rows[0].standing.nature;
         Player {
             scenario,
             row: 0,
-            drive: scenario.has_drive().then(|| Drive::new(first.tap)),
+            drive: None,
             bcd_given: scenario.columns.contains(&Column::Bcd),
             sensor_given: scenario.columns.contains(&Column::Sensor),
         }
+    }
+
+    /// The rows with their drive, if they have one, for a unit with the sheet `list`.
+    pub fn with_drive(scenario: &'a Scenario, list: &[u32]) -> Player<'a> {
+        let first = &scenario.rows[0].standing.nature;
+        let drive = scenario.has_drive().then(|| Simulated::new(list, first.tap));
+        Player { drive, ..Player::new(scenario) }
     }
 
     fn bring(&mut self, tick: u32, before: &[u32; FIELDS]) -> Brought {
@@ -63,27 +108,25 @@ impl<'a> Player<'a> {
         match self.drive.as_mut() {
             None => brought,
             Some(drive) => {
-                let seen = seen(before, &brought);
-                let closed = drive.tick(&standing.nature, seen);
-                self.answer(brought, &standing.nature, closed)
+                let shown = drive.tick(&standing.nature, seen(before, &brought));
+                self.answer(brought, &standing.nature, &shown)
             }
         }
     }
 
     /// What the drive adds to the row: its contacts, its tap and the tap's voltage.
-    fn answer(&self, mut brought: Brought, nature: &Nature, closed: bool) -> Brought {
-        let Some(drive) = &self.drive else { return brought };
-        brought.contacts = with(brought.contacts, SWITCHING, closed);
-        if drive.supply_off {
+    fn answer(&self, mut brought: Brought, nature: &Nature, shown: &Shown) -> Brought {
+        brought.contacts = with(brought.contacts, SWITCHING, shown.switching);
+        if shown.supply_off {
             brought.contacts = with(brought.contacts, SUPPLY_OFF, true);
         }
         if !self.bcd_given {
-            brought.bcd = lines_of(drive.tap);
+            brought.bcd = lines_of(shown.tap);
         }
         if !self.sensor_given {
-            brought.sensor = drive.tap;
+            brought.sensor = shown.tap;
         }
-        let taps = f64::from(drive.tap) - f64::from(nature.tap);
+        let taps = f64::from(shown.tap) - f64::from(nature.tap);
         brought.readings[U_AB] = shifted(brought.readings[U_AB], taps * nature.step);
         brought
     }

@@ -3,8 +3,8 @@
 use library::SLOTS;
 
 use crate::file::{Errors, File};
-use crate::names::{self, ABSENT, D_U, MODULE, N_L, N_POS, N_R, TABLE};
-use crate::unit::{self, Refusal};
+use crate::names::{self, ABSENT, CONTINUOUS, D_U, MODULE, N_L, N_POS, N_R, TABLE, TAP_SOURCE};
+use crate::unit::{self, Refusal, COUNTED, LENGTH, RANGE, TAP_ORDER};
 use crate::value;
 
 /// Bytes of a whole SHEET.
@@ -144,40 +144,63 @@ fn judge(file: &File, draft: &Draft) -> Result<(), Errors> {
     }
 }
 
-/// Each refusal of a list, all from the library: a slot that it names gets its default, and the list is tried again.
+/// Each refusal of a list, all from the library: what it names gets its default, and the list is tried again. Defaults are in
+/// range, in order and not continuous, so no refusal comes twice.
 pub fn refusals(list: &[u32]) -> Vec<Refusal> {
     let mut list = list.to_vec();
     let mut found: Vec<Refusal> = Vec::new();
     while let Err(refusal) = unit::start(&list) {
         let at = refusal.slot as usize;
-        let of_range = refusal.number == 2;
-        if of_range || !found.iter().any(|r| (N_POS..=N_L).contains(&(r.slot as usize))) {
+        if refusal.number != TAP_ORDER || !found.iter().any(is_of_taps) {
             found.push(refusal);
         }
-        if !of_range {
-            break;
+        let mended = match refusal.number {
+            RANGE | COUNTED => at..=at,
+            TAP_ORDER => N_POS..=N_L,
+            _ => break,
+        };
+        for slot in mended {
+            list[slot] = TABLE[slot].default_for(list[MODULE]);
         }
-        list[at] = TABLE[at].default_for(list[MODULE]);
     }
     found
 }
 
-/// A refusal in words: name, value, range and step, number and slot.
+/// A tap out of range: its default may be out of order, which is not the sheet's fault.
+fn is_of_taps(refusal: &Refusal) -> bool {
+    (N_POS..=N_L).contains(&(refusal.slot as usize))
+}
+
+/// A refusal in words: name, value, range and step or what else it must be, number and slot.
 pub fn explain(list: &[u32], refusal: Refusal) -> String {
     let Refusal { number, slot } = refusal;
     let tail = format!("(refusal {number}, slot {slot})");
-    if number == 1 {
+    if number == LENGTH {
         return format!("the list has {} numbers, a sheet has {SLOTS} {tail}", list.len());
     }
     let at = slot as usize;
     let (name, value) = (TABLE[at].name, value::text(&TABLE[at], list[at]));
+    if number == COUNTED {
+        return format!("{name} = {value}: {} {tail}", counted(list));
+    }
     let takes = value::range(&TABLE[at], list[MODULE]);
     let must = match (number, at) {
-        (3, N_R) => format!(", and must be above N_L = {}", list[N_L]),
-        (3, N_POS) => format!(", and must lie from N_L = {} to N_R = {}", list[N_L], list[N_R]),
+        (TAP_ORDER, N_R) => format!(", and must be above N_L = {}", list[N_L]),
+        (TAP_ORDER, N_POS) => format!(", and must lie from N_L = {} to N_R = {}", list[N_L], list[N_R]),
         _ => String::new(),
     };
     format!("{name} = {value}: it {takes}{must} {tail}")
+}
+
+/// Why a tap is not counted without a switching contact, and what to do.
+fn counted(list: &[u32]) -> String {
+    let source = value::text(&TABLE[TAP_SOURCE], list[TAP_SOURCE]);
+    format!("no contact tells of a move, so XB6 = {source} has nothing to count; choose XB6 off, BCD or sensor, or XB2 impulse")
+}
+
+/// Whether the sheet is for a drive without a switching contact.
+pub fn is_continuous(list: &[u32]) -> bool {
+    list[CONTINUOUS] == 1
 }
 
 /// The sheet as text: every slot, with what it means.

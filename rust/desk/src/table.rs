@@ -4,6 +4,7 @@ use crate::cells;
 use crate::inputs::{is_on, CONTACTS, READINGS};
 use crate::outputs;
 use crate::run::{History, Signal};
+use crate::sheet::is_continuous;
 
 /// A change: its tick, whether it comes in or goes out, and its words.
 struct Change {
@@ -12,14 +13,14 @@ struct Change {
     words: String,
 }
 
-/// The table of a run. A recording's readings change on every tick, and are left out by `readings` false.
-pub fn table(history: &History, readings: bool) -> String {
+/// The table of a run on the sheet `list`. A recording's readings change on every tick, and are left out by `readings` false.
+pub fn table(history: &History, list: &[u32], readings: bool) -> String {
     let mut changes: Vec<Change> = Vec::new();
     if readings {
         reading_changes(history, &mut changes);
     }
     contact_changes(&history.contacts, &mut changes);
-    output_changes(history, &mut changes);
+    output_changes(history, is_continuous(list), &mut changes);
     changes.sort_by_key(|change| change.tick);
     let mut text = format!("{:>11}  {:>9}  {:<4} change\n", "seconds", "tick", "");
     let mut before = 0;
@@ -81,11 +82,11 @@ fn contact_changes(signal: &Signal<u32>, changes: &mut Vec<Change>) {
     }
 }
 
-fn output_changes(history: &History, changes: &mut Vec<Change>) {
+fn output_changes(history: &History, continuous: bool, changes: &mut Vec<Change>) {
     for (field, signal) in history.outputs.iter().enumerate() {
         for (tick, now) in signal {
             if *tick > 1 || *now != 0 {
-                changes.push(Change { tick: *tick, side: "out", words: outputs::words(field, *now) });
+                changes.push(Change { tick: *tick, side: "out", words: outputs::words(field, *now, continuous) });
             }
         }
     }

@@ -9,6 +9,15 @@ pub struct Refusal {
     pub slot: u32,
 }
 
+/// A list of another length.
+pub const LENGTH: u32 = 1;
+/// A slot out of its range.
+pub const RANGE: u32 = 2;
+/// N_R not above N_L, or N_pos outside them.
+pub const TAP_ORDER: u32 = 3;
+/// A counted tap with continuous regulation.
+pub const COUNTED: u32 = 5;
+
 /// A regulator that runs. The tool never looks into its image.
 pub struct Unit {
     image: Image,

@@ -33,6 +33,16 @@ fn help_is_there_for_each_subcommand() {
 }
 
 #[test]
+fn help_tells_of_a_drive_without_a_contact() {
+    for words in ["XB2 = continuous    # for a drive without a switching contact", "with XB2 = impulse also counted"] {
+        assert!(out(&avr(&["sheet", "check", "--help"])).contains(words), "{words}");
+    }
+    for words in ["With XB2 = continuous in the sheet the drive has no switching contact", "up a tap that is not done"] {
+        assert!(out(&avr(&["scenario", "write", "--help"])).contains(words), "{words}");
+    }
+}
+
+#[test]
 fn a_wrong_command_line_is_status_2() {
     for words in [
         vec![],
@@ -85,6 +95,27 @@ fn a_refused_sheet_writes_nothing() {
     let (table, svg) = (folder.path("t"), folder.path("p"));
     let output = avr(&["run", "--sheet", &text, "--scenario", &scenario, "--table", &table, "--svg", &svg]);
     assert_eq!(output.status.code(), Some(1));
+    assert_eq!(folder.names(), ["a.csv", "a.txt"]);
+}
+
+#[test]
+fn a_counted_tap_without_a_contact_is_told_with_file_and_line() {
+    let folder = Folder::new("counted");
+    let text = folder.write("a.txt", "XB1 = on\nXB2 = continuous  # no contact\nXB6 = counted\n");
+    let told = format!(
+        "avr: {text}:2: XB2 = continuous: no contact tells of a move, so XB6 = counted has nothing to count; \
+         choose XB6 off, BCD or sensor, or XB2 impulse (refusal 5, slot 63)\n"
+    );
+    let output = avr(&["sheet", "check", &text, "-o", &folder.path("a.sheet")]);
+    assert_eq!((output.status.code(), out(&output).as_str(), err(&output)), (Some(1), "", told.clone()));
+    let (scenario, recording) = (folder.write("a.csv", DRIVEN), folder.path("a.rec"));
+    for words in [
+        vec!["run", "--sheet", &text, "--scenario", &scenario],
+        vec!["scenario", "write", &scenario, "--sheet", &text, "-o", &recording],
+    ] {
+        let output = avr(&words);
+        assert_eq!((output.status.code(), out(&output).as_str(), err(&output)), (Some(1), "", told.clone()));
+    }
     assert_eq!(folder.names(), ["a.csv", "a.txt"]);
 }
 
@@ -146,7 +177,7 @@ fn outputs(table: &str) -> Vec<String> {
 #[test]
 fn a_recording_of_an_example_runs_as_the_example_does() {
     let folder = Folder::new("replay");
-    for story in ["two-steps", "sliding-tap", "long-move"] {
+    for story in ["two-steps", "sliding-tap", "long-move", "continuous-in-band", "continuous-long"] {
         let place = |name: &str| examples().join(story).join(name).to_str().expect("a plain path").to_string();
         let (sheet, scenario, recording) = (place("sheet.txt"), place("scenario.csv"), folder.path("a.rec"));
         let written = avr(&["scenario", "write", &scenario, "--sheet", &sheet, "-o", &recording]);
@@ -168,6 +199,20 @@ fn a_run_says_what_changed_and_where_the_picture_is() {
     assert!(err(&output).contains(&format!("the picture is in {svg}")));
     let picture = fs::read_to_string(&svg).expect("a picture");
     assert!(picture.starts_with("<svg ") && picture.ends_with("</svg>\n"));
+}
+
+#[test]
+fn the_words_are_those_of_the_drive_in_the_sheet() {
+    let folder = Folder::new("words");
+    let csv = folder.write("a.csv", "seconds,U_AB,breaker,automatic,drive\n0,98,1,1,does-not-start\n4,end\n");
+    let impulse = ["out  drive busy", "out  drive at rest", "out  FAULT: drive not started"];
+    let continuous = ["out  drive asked", "out  drive not asked", "out  FAULT: long command"];
+    for (kind, told, untold) in [("impulse", impulse, continuous), ("continuous", continuous, impulse)] {
+        let sheet = folder.write("a.txt", format!("XB1 = on\nXB2 = {kind}\nT1 = 0.5 s\nT4 = 2 s\nT5 = 2 s\n"));
+        let table = out(&avr(&["run", "--sheet", &sheet, "--scenario", &csv]));
+        assert!(told.iter().all(|words| table.contains(words)), "{table}");
+        assert!(untold.iter().all(|words| !table.contains(words)), "{table}");
+    }
 }
 
 #[test]

@@ -1,6 +1,16 @@
-//! The simulated drive.
+//! The simulated drive, with a switching contact and without.
 
+mod common;
+
+use common::file;
 use desk::drive::{Drive, Nature, Seen, Temper, Way};
+use desk::motor::Motor;
+use desk::outputs::{LONG, LOWER as LOWER_COMMAND, OPERATIONS, RAISE as RAISE_COMMAND, SUPPLY_TRIP, TAP};
+use desk::play::{Player, Source};
+use desk::progress::Progress;
+use desk::run::{self, History};
+use desk::unit::start;
+use desk::{scenario, sheet};
 
 const RAISE: Seen = Seen { command: Some(Way::Raise), trip: false, reset: false };
 const LOWER: Seen = Seen { command: Some(Way::Lower), trip: false, reset: false };
@@ -52,10 +62,10 @@ fn it_can_run_on_until_its_supply_is_off() {
     assert_eq!(over(&mut drive, &stuck, RAISE, 8), "########");
     assert_eq!(over(&mut drive, &stuck, TRIP, 1), "#");
     assert_eq!(over(&mut drive, &stuck, NOTHING, 20), "##################..");
-    assert!(drive.supply_off);
+    assert!(drive.supply.off);
     assert_eq!(over(&mut drive, &stuck, RAISE, 3), "...");
     over(&mut drive, &stuck, RESET, 1);
-    assert!(!drive.supply_off);
+    assert!(!drive.supply.off);
     assert_eq!((over(&mut drive, &stuck, RAISE, 2), drive.tap), ("##".to_string(), 9));
 }
 
@@ -86,4 +96,147 @@ fn it_stays_within_its_taps() {
         over(&mut drive, &ok, seen, 5);
         assert_eq!(drive.tap, last);
     }
+}
+
+/// The tap of a drive without a contact over some ticks of the same kind, from 1 to 9.
+fn taps(motor: &mut Motor, nature: &Nature, seen: Seen, ticks: usize) -> String {
+    let one = |_| {
+        motor.tick(nature, seen);
+        motor.tap.to_string()
+    };
+    (0..ticks).map(one).collect()
+}
+
+#[test]
+fn without_a_contact_it_goes_from_tap_to_tap_while_its_command_is_on() {
+    let (mut motor, ok) = (Motor::new(5), nature(Temper::Ok, 2, 3));
+    assert_eq!(taps(&mut motor, &ok, NOTHING, 3), "555");
+    assert_eq!(taps(&mut motor, &ok, RAISE, 12), "555566677788");
+    assert_eq!(taps(&mut motor, &ok, LOWER, 9), "888877766");
+}
+
+#[test]
+fn its_first_tap_comes_when_the_other_drives_does() {
+    for (start, run) in [(0, 0), (1, 1), (2, 3), (7, 0), (0, 4)] {
+        let ok = nature(Temper::Ok, start, run);
+        let (mut drive, mut motor) = (Drive::new(5), Motor::new(5));
+        while drive.tap == 5 {
+            assert_eq!(motor.tap, 5, "{start} {run}");
+            drive.tick(&ok, RAISE);
+            motor.tick(&ok, RAISE);
+        }
+        assert_eq!(motor.tap, 6, "{start} {run}");
+    }
+}
+
+#[test]
+fn when_the_command_goes_off_it_stops_and_gives_up_a_tap_not_done() {
+    let (mut motor, ok) = (Motor::new(5), nature(Temper::Ok, 2, 3));
+    assert_eq!(taps(&mut motor, &ok, RAISE, 7) + &taps(&mut motor, &ok, NOTHING, 6), "5555666666666");
+    assert_eq!(taps(&mut motor, &ok, RAISE, 4) + &taps(&mut motor, &ok, NOTHING, 1), "66666");
+    assert_eq!(taps(&mut motor, &ok, RAISE, 5), "66667");
+    assert_eq!(taps(&mut motor, &ok, RAISE, 2) + &taps(&mut motor, &ok, LOWER, 5), "7777776");
+}
+
+#[test]
+fn without_a_contact_it_can_be_dead_and_come_alive_under_its_command() {
+    let mut motor = Motor::new(5);
+    assert_eq!(taps(&mut motor, &nature(Temper::DoesNotStart, 1, 1), RAISE, 9), "555555555");
+    assert_eq!(taps(&mut motor, &nature(Temper::Ok, 1, 1), RAISE, 3), "567");
+}
+
+#[test]
+fn without_a_contact_it_can_run_on_until_its_supply_is_off() {
+    let (mut motor, stuck) = (Motor::new(3), nature(Temper::RunsOn, 1, 10));
+    assert_eq!(taps(&mut motor, &stuck, NOTHING, 20), "3".repeat(20));
+    assert_eq!(taps(&mut motor, &stuck, RAISE, 11), "33333333334");
+    assert_eq!(taps(&mut motor, &stuck, NOTHING, 10), "4444444445");
+    assert_eq!(taps(&mut motor, &stuck, LOWER, 10), "5555555556");
+    assert_eq!(taps(&mut motor, &stuck, TRIP, 1), "6");
+    assert_eq!(taps(&mut motor, &stuck, NOTHING, 30), "6".repeat(8) + &"7".repeat(22));
+    assert!(motor.supply.off);
+}
+
+#[test]
+fn the_supply_ends_its_motion_until_reset() {
+    let (mut motor, ok) = (Motor::new(5), nature(Temper::Ok, 1, 22));
+    let tripped = Seen { trip: true, ..RAISE };
+    assert_eq!(taps(&mut motor, &ok, tripped, 40), "5".repeat(40));
+    assert!(motor.supply.off);
+    assert_eq!(taps(&mut motor, &ok, RESET, 1), "5");
+    assert!(!motor.supply.off);
+    assert_eq!(taps(&mut motor, &ok, RAISE, 23), "5".repeat(22) + "6");
+}
+
+#[test]
+fn without_a_contact_it_can_take_a_tap_by_itself_once() {
+    for (temper, tap) in [(Temper::SelfRaise, '6'), (Temper::SelfLower, '4')] {
+        let (mut motor, ok, alone) = (Motor::new(5), nature(Temper::Ok, 5, 2), nature(temper, 5, 2));
+        assert_eq!(taps(&mut motor, &ok, NOTHING, 3), "555");
+        assert_eq!(taps(&mut motor, &alone, NOTHING, 9), format!("55{}", tap.to_string().repeat(7)));
+    }
+    assert_eq!(taps(&mut Motor::new(5), &nature(Temper::SelfRaise, 5, 2), LOWER, 9), "556666666");
+    assert_eq!(taps(&mut Motor::new(5), &nature(Temper::SelfRaise, 5, 2), LOWER, 10), "5566666665");
+}
+
+#[test]
+fn without_a_contact_it_does_not_stop_at_a_sliding_tap() {
+    let mut ok = nature(Temper::Ok, 2, 3);
+    ok.sliding = vec![6];
+    let mut motor = Motor::new(5);
+    assert_eq!(taps(&mut motor, &ok, RAISE, 5) + &taps(&mut motor, &ok, NOTHING, 8), "5555666777777");
+    assert_eq!(taps(&mut motor, &ok, LOWER, 5) + &taps(&mut motor, &ok, RAISE, 3), "77776665");
+}
+
+#[test]
+fn without_a_contact_it_stays_within_its_taps() {
+    let ok = nature(Temper::Ok, 1, 1);
+    for (first, seen, last) in [(78, RAISE, 79), (2, LOWER, 1)] {
+        let mut motor = Motor::new(first);
+        taps(&mut motor, &ok, seen, 9);
+        assert_eq!(motor.tap, last);
+    }
+}
+
+/// A run of a unit for a drive without a contact: T1 is 5 s, T4 8 s, a tap takes 2 s and is 1 V.
+fn continuous(rows: &str) -> History {
+    let sheet = "XB1 = on\nXB2 = continuous\nXB6 = sensor\nXB18 = on\nT1 = 5 s\nT2 = 1 s\nT4 = 8 s\n";
+    let list = sheet::read(&file(sheet)).expect("a sheet").list;
+    let head = "seconds,U_AB,breaker,automatic,raise,local,drive,drive_start,drive_run,drive_tap,drive_step\n";
+    let scenario = scenario::read(&file(&format!("{head}{rows}"))).expect("a scenario");
+    let source = Source::Scenario(Player::with_drive(&scenario, &list));
+    run::run(start(&list).expect("taken"), source, &mut Progress::usual(), |_| ()).expect("a run")
+}
+
+#[test]
+fn a_manual_command_takes_the_taps_that_t4_gives_it() {
+    let history = continuous("0,100.4,1,0,0,0,ok,0.5,2,9,1\n1,,,,1\n30,end");
+    assert_eq!(history.outputs[RAISE_COMMAND], [(1, 0), (201, 1), (1801, 0)]);
+    assert_eq!(history.outputs[TAP], [(1, 9), (701, 10), (1101, 11), (1501, 12)]);
+    assert_eq!(history.outputs[OPERATIONS], [(1, 0), (1801, 1)]);
+}
+
+#[test]
+fn a_drive_that_runs_on_is_stopped_by_the_long_command_against_it() {
+    let history = continuous("0,98.4,1,1,0,0,runs-on,0.5,2,9,1\n60,end");
+    assert_eq!(history.outputs[RAISE_COMMAND], [(1, 0), (1000, 1), (1500, 0)]);
+    assert_eq!(history.outputs[LOWER_COMMAND], [(1, 0), (3299, 1), (4899, 0)]);
+    assert_eq!(history.outputs[LONG], [(1, 0), (4899, 1)]);
+    assert_eq!(history.outputs[SUPPLY_TRIP][1], (4899, 1));
+    assert_eq!(history.outputs[TAP].last(), Some(&(4700, 18)));
+}
+
+#[test]
+fn a_tap_by_itself_is_no_fault() {
+    let history = continuous("0,100.4,1,1,0,0,ok,0.5,2,9,1\n1,,,,,,self-lower\n30,end");
+    assert_eq!(history.outputs[TAP], [(1, 9), (601, 8)]);
+    assert!(desk::outputs::FAULTS.into_iter().all(|fault| history.outputs[fault] == [(1, 0)]));
+}
+
+#[test]
+fn local_drive_takes_the_command_off_and_the_drive_stops() {
+    let history = continuous("0,95.4,1,1,0,0,ok,0.5,2,9,1\n9,,,,,1\n30,end");
+    assert_eq!(history.outputs[RAISE_COMMAND], [(1, 0), (1000, 1), (1801, 0)]);
+    assert_eq!(history.outputs[TAP], [(1, 9), (1500, 10)]);
+    assert_eq!(history.outputs[OPERATIONS], [(1, 0)]);
 }

@@ -6,7 +6,8 @@ use std::time::Duration;
 
 use common::{check_texts, defaults, file, Dice};
 use desk::band::bands;
-use desk::inputs::with;
+use desk::inputs::{with, SWITCHING};
+use desk::names::CONTINUOUS;
 use desk::outputs::{HIGH, LOW};
 use desk::picture::picture;
 use desk::play::{Player, Source};
@@ -123,11 +124,36 @@ fn a_crowded_picture_can_be_read() {
     let list = sheet::read(&file(CROWDED_SHEET)).expect("a sheet").list;
     let scenario = scenario::read(&file(CROWDED)).expect("a scenario");
     let unit = start(&list).expect("taken");
-    let source = Source::Scenario(Player::new(&scenario));
+    let source = Source::Scenario(Player::with_drive(&scenario, &list));
     let history = run::run(unit, source, &mut Progress::usual(), |_| ()).expect("a run");
     let text = picture(&history, &list, "crowded");
     check_texts("crowded", &text);
     for words in ["U_supp1 100 V", "U_supp2 104 V", "I_set3 0.1 A", "trip: U2 over U_set4", "wrong BCD code", "in: oil_cold"] {
         assert!(text.contains(&format!(">{words}</text>")), "{words}");
+    }
+}
+
+/// The picture of a unit whose switching contact closes, or not, for a sheet with this regulation.
+fn picture_of(continuous: u32, closed: bool) -> String {
+    let mut list = defaults(0);
+    list[CONTINUOUS] = continuous;
+    let ticks = [tick(100.0, 1), tick(100.0, with(1, SWITCHING, closed))];
+    let unit = start(&list).expect("taken");
+    let history = run::run(unit, Source::Recording(&ticks), &mut Progress::usual(), |_| ()).expect("a run");
+    picture(&history, &list, "contact")
+}
+
+#[test]
+fn the_contact_has_a_lane_where_the_drive_has_a_contact() {
+    for (continuous, closed, lane, input) in
+        [(0, false, true, false), (0, true, true, false), (1, false, false, false), (1, true, false, true)]
+    {
+        let text = picture_of(continuous, closed);
+        assert_eq!(text.contains(">switching contact</text>"), lane, "{continuous} {closed}");
+        assert_eq!(text.contains(">in: switching</text>"), input, "{continuous} {closed}");
+        assert_eq!(text.contains("the switching contact, the tap"), continuous == 0);
+        assert_eq!(text.contains("XB2 continuous · "), continuous == 1);
+        assert_eq!(text.contains(" · T2 60 s · "), continuous == 0);
+        check_texts("contact", &text);
     }
 }

@@ -2,7 +2,10 @@
 
 mod common;
 
-use common::{bytes, file, Dice};
+use common::{bytes, defaults, file, Dice};
+use desk::inputs::{is_on, SWITCHING};
+use desk::names::CONTINUOUS;
+use desk::outputs::RAISE;
 use desk::play::{Player, Source};
 use desk::recording::{BYTES, READING_BYTES};
 use desk::{cells, recording, scenario, show};
@@ -85,6 +88,29 @@ fn taps_come_on_lines_and_from_the_sensor() {
     assert_eq!((ticks[0].bcd, ticks[0].sensor, ticks[1].bcd), (0x24, 200, 0x1A));
 }
 
+/// The ticks of a scenario whose drive is told to raise from the first tick on, for a sheet with this regulation.
+fn raised(text: &str, continuous: u32) -> Vec<Brought> {
+    let mut list = defaults(0);
+    list[CONTINUOUS] = continuous;
+    let scenario = scenario::read(&file(text)).expect("a good scenario");
+    let mut source = Source::Scenario(Player::with_drive(&scenario, &list));
+    let mut outputs = [0; FIELDS];
+    outputs[RAISE] = 1;
+    (1..=scenario.ticks).map(|tick| source.bring(tick, &outputs)).collect()
+}
+
+#[test]
+fn the_sheet_says_which_drive_answers() {
+    let text = "seconds,U_AB,drive,drive_start,drive_run,drive_tap,drive_step\n0,97,ok,0.01,0.02,9,1.5\n0.1,end";
+    let closed = |ticks: &[Brought]| ticks.iter().filter(|tick| is_on(tick.contacts, SWITCHING)).count();
+    let last = |ticks: &[Brought]| ticks.last().map(|tick| (tick.readings[0].value, tick.bcd, tick.sensor));
+    let (impulse, continuous) = (raised(text, 0), raised(text, 1));
+    assert_eq!((closed(&impulse), last(&impulse)), (4, Some((98.5, 0x10, 10))));
+    assert_eq!((closed(&continuous), last(&continuous)), (0, Some((103.0, 0x13, 13))));
+    let volts: Vec<f32> = continuous.iter().map(|tick| tick.readings[0].value).collect();
+    assert_eq!(volts[4..10], [97.0, 98.5, 98.5, 98.5, 98.5, 100.0]);
+}
+
 #[test]
 fn blanks_quotes_comments_and_idle_rows_are_no_matter() {
     let plain = ticks("ticks,U_AB,breaker\n0,100,on\n2,end");
@@ -155,7 +181,7 @@ const BAD_SCENARIOS: [(&str, &str); 29] = [
     ("ticks,drive_run\n0,1\n1,end", "file:1: the column `drive_run` needs a column `drive`"),
     (
         "ticks,drive,switching\n0\n1,end",
-        "file:1: `switching` and `drive` are both there: the simulated drive moves the switching contact",
+        "file:1: `switching` and `drive` are both there: the simulated drive gives the switching contact",
     ),
     ("HEAD0,1", "file: the last row must be its end: a time and the word `end`"),
     ("HEAD1,1\n2,end", "file:2: the first row must be at time 0"),

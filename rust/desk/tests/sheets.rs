@@ -3,7 +3,7 @@
 mod common;
 
 use common::{bytes, defaults, file, Dice};
-use desk::names::{Kind, ABSENT, MODULE, N_L, N_POS, N_R, TABLE};
+use desk::names::{Kind, ABSENT, CONTINUOUS, MODULE, N_L, N_POS, N_R, TABLE, TAP_SOURCE};
 use desk::sheet::{self, explain, refusals};
 use desk::unit::{start, Refusal};
 use desk::{decimal, value};
@@ -57,6 +57,17 @@ fn the_table_of_names_agrees_with_the_library_at_every_edge() {
 }
 
 #[test]
+fn a_counted_tap_is_refused_with_continuous_regulation_alone() {
+    for (continuous, source) in (0..2).flat_map(|continuous| (0..5).map(move |source| (continuous, source))) {
+        let mut list = defaults(0);
+        (list[CONTINUOUS], list[TAP_SOURCE]) = (continuous, source);
+        let wanted = (continuous == 1 && source >= 3).then_some(Refusal { number: 5, slot: 63 });
+        assert_eq!(start(&list).err(), wanted, "XB2 {continuous}, XB6 {source}");
+        assert_eq!(refusals(&list), wanted.into_iter().collect::<Vec<_>>());
+    }
+}
+
+#[test]
 fn the_module_takes_0_and_1() {
     for number in [0, 1] {
         assert!(start(&defaults(number)).is_ok());
@@ -68,7 +79,7 @@ fn the_module_takes_0_and_1() {
     }
 }
 
-const MANUAL_DEFAULTS: [&str; 32] = [
+const MANUAL_DEFAULTS: [&str; 33] = [
     "I_nom = 1 A",
     "U_supp4 = 100 V",
     "dU_set = 2 V",
@@ -101,6 +112,7 @@ const MANUAL_DEFAULTS: [&str; 32] = [
     "XB14 = block",
     "XB17 = pulse",
     "XB20 = off",
+    "XB2 = impulse",
 ];
 
 #[test]
@@ -137,6 +149,9 @@ fn chance(dice: &mut Dice) -> Vec<u32> {
     list[N_L] = 1 + dice.below(20);
     list[N_R] = list[N_L] + 1 + dice.below(40 - list[N_L]);
     list[N_POS] = list[N_L] + dice.below(list[N_R] - list[N_L] + 1);
+    if list[CONTINUOUS] == 1 {
+        list[TAP_SOURCE] = dice.below(3);
+    }
     list
 }
 
@@ -183,6 +198,8 @@ fn values_are_written_as_people_write_them() {
         ("XB5 = bus+coupler", 4, 3),
         ("XB5 = bus - coupler", 4, 2),
         ("XB17 = lasting", 16, 1),
+        ("XB2 = continuous", 63, 1),
+        ("XB2 = Impulse", 63, 0),
         ("N3 = 7", 55, 7),
         ("N3 = empty", 55, 0),
         ("N_max = 500000", 52, 500_000),
@@ -244,6 +261,24 @@ fn the_order_of_the_taps_is_told() {
 }
 
 #[test]
+fn a_counted_tap_without_a_contact_is_told_with_what_to_do() {
+    for source in ["counted", "counted-reversed"] {
+        let told = format!(
+            "file:3: XB2 = continuous: no contact tells of a move, so XB6 = {source} has nothing to count; \
+             choose XB6 off, BCD or sensor, or XB2 impulse (refusal 5, slot 63)"
+        );
+        assert_eq!(one_problem(&format!("XB6 = {source}\n\nXB2 = continuous")), told);
+        let mut list = defaults(0);
+        (list[CONTINUOUS], list[TAP_SOURCE]) = (1, value::number(&TABLE[TAP_SOURCE], source).expect("a word"));
+        let told = sheet::read_binary(&bytes(sheet::to_bytes(&list))).expect_err("no contact").concat();
+        assert!(told.starts_with("file: XB2 = continuous: no contact tells of a move"), "{told}");
+        for changed in ["XB2 = impulse\nXB6 = {}", "XB2 = continuous\nXB6 = sensor", "XB2 = continuous\nXB6 = BCD"] {
+            assert!(sheet::read(&file(&changed.replace("{}", source))).is_ok(), "{changed}");
+        }
+    }
+}
+
+#[test]
 fn a_list_of_another_length_is_told() {
     for length in [0, 1, SLOTS - 1, SLOTS + 1, 2 * SLOTS] {
         let list = vec![0; length];
@@ -265,13 +300,58 @@ fn all_refusals_are_told_at_once() {
     assert_eq!(slots, ["20)", "33)", "49)"]);
 }
 
+/// The number and slot of each refusal of a text, in the order in which they are told.
+fn numbers(text: &str) -> Vec<String> {
+    let tail = |line: &String| line.rsplit_once("(refusal ").expect("a refusal").1.trim_end_matches(')').to_string();
+    problems(text).iter().map(tail).collect()
+}
+
+#[test]
+fn orders_between_settings_are_told_with_the_ranges() {
+    let continuous = "XB2 = continuous\nXB6 = counted\n";
+    for (text, wanted) in [
+        ("T1 = 0", vec!["2, slot 33", "5, slot 63"]),
+        ("N_R = 9", vec!["3, slot 48", "5, slot 63"]),
+        ("T1 = 0\nN_L = 9\nN_R = 9\nN_pos = 9", vec!["2, slot 33", "3, slot 49", "5, slot 63"]),
+        ("N_R = 41\nN_L = 40", vec!["2, slot 49", "5, slot 63"]),
+    ] {
+        assert_eq!(numbers(&format!("{continuous}{text}")), wanted, "{text}");
+    }
+    assert_eq!(numbers("XB2 = raw 2\nXB6 = counted"), ["2, slot 63"]);
+    assert_eq!(numbers("XB2 = continuous\nXB6 = raw 5"), ["2, slot 5"]);
+}
+
+#[test]
+fn every_list_comes_to_an_end_and_no_slot_is_told_twice() {
+    let mut dice = Dice(4);
+    let mut seen = [0; 6];
+    for _ in 0..2000 {
+        let mut list = chance(&mut dice);
+        for _ in 0..dice.below(6) {
+            let any = dice.below(SLOTS as u32) as usize;
+            let edits = [(TAP_SOURCE, 6), (CONTINUOUS, 3), (N_POS, 45), (N_R, 45), (N_L, 45), (any, 45)];
+            let (slot, end) = edits[dice.below(6) as usize];
+            list[slot] = dice.below(end);
+        }
+        let found = refusals(&list);
+        found.iter().for_each(|refusal| seen[refusal.number as usize] += 1);
+        let mut slots: Vec<u32> = found.iter().map(|refusal| refusal.slot).collect();
+        slots.sort();
+        slots.dedup();
+        assert_eq!(slots.len(), found.len(), "{found:?}");
+        assert_eq!(found.first().copied(), start(&list).err());
+    }
+    assert!(seen[2] > 100 && seen[3] > 100 && seen[5] > 100, "{seen:?}");
+}
+
 #[test]
 fn bad_lines_are_told_with_their_line() {
     for (text, told) in [
         ("XB1 = on\nT1 20", "file:2: `T1 20` is not `name = value`"),
         ("XB1 = on\n\nT99 = 1", "file:3: no setting is called `T99`"),
         ("t1 = 1", "file:1: no setting is called `t1`; T1 is one"),
-        ("XB2 = on", "file:1: XB2 is no setting of this unit: this unit regulates by pulses only"),
+        ("XB2 = on", "file:1: XB2 = on: is none of its words; it takes impulse or continuous (slot 63)"),
+        ("XB19 = on", "file:1: XB19 is no setting of this unit: this unit takes 3U0 as it is brought"),
         ("dU = 2", "file:1: dU is no setting of this unit: write dU_set"),
         ("T1 =  # nothing", "file:1: T1 has no value"),
         ("T1 = 5\nT2 = 5\nT1 = 5", "file:3: T1 is given again; line 1 gives it too"),

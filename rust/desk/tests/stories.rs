@@ -6,10 +6,12 @@ use std::fs;
 
 use common::{avr, between, check_texts, err, examples, Folder};
 
-const STORIES: [&str; 11] = [
+const STORIES: [&str; 13] = [
     "acceleration",
     "band-edge",
     "compensation",
+    "continuous-in-band",
+    "continuous-long",
     "fast-move",
     "long-move",
     "manual-keys",
@@ -68,11 +70,51 @@ fn each_story_is_told() {
         ("organ-blocks", vec!["TRIP: I_bus over I_set2", "out  automatic blocked", "out  automatic free"]),
         ("band-edge", vec!["U_AB 100.0994 V\n     40.005", "U_AB 100.1 V\n                        out  voltage high"]),
         ("compensation", vec!["I_bus 0.4 A\n                        out  voltage low"]),
+        ("continuous-in-band", vec!["30.000       6000  out  RAISE command", "out  tap 10", "out  tap 11", IN_BAND]),
+        ("continuous-long", vec!["10.000       2000  out  RAISE command", LONG, RESET, AFTER_T1]),
     ] {
         let table = read(story, "table.txt");
         told.iter().for_each(|words| assert!(table.contains(words), "{story}: {words}\n{table}"));
     }
 }
+
+/// One command over all taps, which ends in band and counts on that tick.
+const IN_BAND: &str = "\
+     42.500       8500  in   U_AB 99.4 V
+                        out  raise command off
+                        out  tap 12
+                        out  voltage no longer low
+                        out  drive not asked
+                        out  operations 1
+     70.000      14000  end
+";
+
+/// The T4th tick, 1600, after the first.
+const LONG: &str = "\
+     18.000       3600  out  raise command off
+                        out  automatic blocked
+                        out  manual blocked
+                        out  raise blocked
+                        out  lower blocked
+                        out  FAULT: long command
+                        out  SUPPLY TRIP
+                        out  drive not asked
+     18.100       3620  in   drive supply off
+";
+
+const RESET: &str = "\
+     32.005       6401  in   drive supply on
+                        in   reset pressed
+";
+
+/// T1 after the reset; T2 would be 37 s.
+const AFTER_T1: &str = "\
+     33.005       6601  in   reset released
+     42.000       8400  out  RAISE command
+                        out  drive asked
+     46.000       9200  in   U_AB 99.9 V
+                        out  raise command off
+";
 
 #[test]
 fn no_text_lies_on_another_or_outside_the_picture() {
