@@ -52,7 +52,12 @@ static int refusals(avr_image image, const avr_brought *in, const uint32_t *list
     int both = refused("operations 1000000", far, in) & refused("fault 5", none, in);
     avr_started t = avr_start(list, AVR_SLOTS - 1);
     printf("a list too short: number %u, slot %u\n", t.number, t.slot);
-    return both && t.number == AVR_REFUSED_LENGTH ? 0 : 1;
+    uint32_t held[AVR_SLOTS];
+    memcpy(held, list, sizeof held);
+    held[AVR_SLOT_CONTINUOUS] = 1; /* the tap is counted */
+    avr_started u = avr_start(held, AVR_SLOTS);
+    printf("counted without a contact: number %u, slot %u\n", u.number, u.slot);
+    return both && t.number == AVR_REFUSED_LENGTH && u.number == AVR_REFUSED_COUNTED ? 0 : 1;
 }
 
 int main(void) {

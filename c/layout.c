@@ -55,6 +55,7 @@ static void sheet(uint32_t *s) {
     s[AVR_SLOT_N_START] = 17;
     s[AVR_SLOT_N_MAX] = 18;
     s[AVR_SLOT_N10] = 39;
+    s[AVR_SLOT_CONTINUOUS] = 1;
 }
 
 /* High voltage, U2 over its limit, the raise button pressed. */
