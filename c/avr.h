@@ -99,7 +99,7 @@ enum avr_slot {
     AVR_SLOT_N8 = 60,                   /* N8: sliding tap 8, 0 = empty; 0-40 */
     AVR_SLOT_N9 = 61,                   /* N9: sliding tap 9, 0 = empty; 0-40 */
     AVR_SLOT_N10 = 62,                  /* N10: sliding tap 10, 0 = empty; 0-40 */
-    AVR_SLOT_CONTINUOUS = 63,           /* XB2: regulation: 0 impulse, by the drive's switching contact, 1 continuous, without it; 0-1 */
+    AVR_SLOT_CONTINUOUS = 63,           /* XB2: regulation: 0 impulse, by the switching contact, 1 continuous, without it; 0-1 */
 
     /* The first slot of each run: the organs in the order of their outputs, U_supp 1 to 4, the sliding taps 1 to 10. */
     AVR_SLOT_ORGANS_ON = AVR_SLOT_ON_I_HIGH_OVER_I_SET1,

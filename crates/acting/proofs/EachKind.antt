@@ -1,12 +1,11 @@
 -- Rule 7 over the kind of drive: what holds of a drive with a switching contact and of one without.
 -- Assumes nothing.
-use mathlib.Core.Path.{_≡_, refl, sym, ap, _∙_, subst}
-use mathlib.Core.Bool.{Bool, true, false}
+use mathlib.Core.Path.{_≡_, refl, ap, _∙_, subst}
+use mathlib.Core.Bool.{true, false}
 use mathlib.Core.List.{List}
 use mathlib.Core.Logic.{_⊎_, inl, inr, ⊎-elim}
 use Prim.Native.Nat.{ℕ, _≤_}
 use borrow.Author.Tests.{eqb-true, eq-eqb}
-use native.Mathlib.Omega.{arith}
 use Rattle.common.proofs.Cases.{yes, no, chosen}
 use Rattle.common.proofs.Joined.{split}
 use Rattle.slots.specs.Slots.{slot, t4, t5, continuous, isContinuous}

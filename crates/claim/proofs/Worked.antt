@@ -6,13 +6,13 @@ use mathlib.Core.Path.{_≡_, refl}
 use mathlib.Core.Bool.{true, false}
 use mathlib.Core.List.{List, [], _∷_, _++_}
 use lib.Dec.{lit<, lit≤}
-use lib.ListN.{replicate, take, drop}
+use lib.ListN.{replicate}
 use Rattle.common.specs.Choice.{choose}
 use Rattle.ways.specs.declared.Direction.the-variants.{Raise, Lower}
 use Rattle.claim.specs.Claim.{Tick, Opening, All, Some, Begins, Command, Lasting, Waiting, BeganAtZero, InForce, longest, output, modeField, blockField, Serves, Kept, closed}
 use Rattle.claim.specs.Scenes.{sheetOf, variedSheet, heldSheet}
 use Rattle.claim.proofs.Lists.{all-join, all-last, all-same}
-use Rattle.claim.proofs.Ticks.{shows, tickOn, openContact, closedContact, inBand, waits, raises, asked, moves, ends, high, heldLow, held, heldLong, heldBand, heldHigh, resetContact, zero-one, low-lasts, low-waiting, high-waiting, held-waiting, held-high-waiting, band-not, ends-not, long-not, raises-begins}
+use Rattle.claim.proofs.Ticks.{shows, tickOn, openContact, closedContact, inBand, waits, raises, asked, moves, ends, high, heldLow, held, heldLong, heldBand, heldHigh, resetContact, low-lasts, low-waiting, high-waiting, held-waiting, held-high-waiting, band-not, ends-not, long-not, raises-begins}
 
 -- ---- the lists
 

@@ -112,12 +112,15 @@ pub record Lasting (d : Direction) (t : Tick) : Type 0 where
   pub noLong : output 21 t ≡ 0
   pub noFast : output 22 t ≡ 0
 
--- *waiting tick* to a side: with "the drive at rest as it starts, bit 1 clear"; 02, ticket 2: "a waiting tick asking for no open contact
--- where slot 63 is 1"
+-- "bit 1 clear"; 02, ticket 2: "a waiting tick asking for no open contact where slot 63 is 1"
+abbrev pub Free : Tick → Type 0
+Free t = (slot (t .settings) continuous ≡ 1) ⊎ (closed t ≡ false)
+
+-- *waiting tick* to a side: with "the drive at rest as it starts", and that
 pub record Waiting (d : Direction) (t : Tick) : Type 0 where
   pub lasting : Lasting d t
   pub rest : t .rest ≡ true
-  pub contact : (slot (t .settings) continuous ≡ 1) ⊎ (closed t ≡ false)
+  pub contact : Free t
 
 -- *began at zero*, after the ticks `pre` of a list: "the tick before the row is no waiting tick to that side, or the row opens the list on
 -- a record .. that holds no wait to that side"

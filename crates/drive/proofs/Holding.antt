@@ -1,7 +1,7 @@
 -- A drive without a switching contact: a tick keeps its limits, a fault that arises is 'long' and brings rest, and at rest it stays.
 -- Assumes nothing.
 use mathlib.Core.Path.{_≡_, refl, sym}
-use mathlib.Core.Bool.{Bool, true, false, true≢false}
+use mathlib.Core.Bool.{true, false, true≢false}
 use Prim.Native.Nat.{ℕ, _+_}
 use Rattle.common.proofs.Cases.{either, chosen}
 use Rattle.drive.specs.Follow.{unmovedOf, faultyOf, restsOf}

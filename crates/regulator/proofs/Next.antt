@@ -15,7 +15,6 @@ use Rattle.organ.specs.Limits.{organsWithin}
 use Rattle.organ.proofs.Within.{all-step-within}
 use Rattle.ways.specs.declared.Way.{Way}
 use Rattle.ways.specs.declared.Way.the-variants.{Neither, To}
-use Rattle.acting.specs.declared.judging.Finding.{Finding}
 use Rattle.drive.specs.Follow.{restsOf}
 use Rattle.fault.specs.Latches.{isFault, latchedOf}
 use Rattle.fault.proofs.Kept.{latched-within}
@@ -34,7 +33,7 @@ use Rattle.acting.specs.Accounting.{accountedOf}
 use Rattle.acting.specs.Judging.{blockedOf}
 use Rattle.acting.specs.Commanding.{askOf, situationOf, decisionOf, regulatedOf}
 use Rattle.sensing.specs.Protecting.{protectedOf}
-use Rattle.acting.specs.Supervising.{clearedOf, supervisedOf}
+use Rattle.acting.specs.Supervising.{supervisedOf}
 use Rattle.acting.specs.declared.supervising.Supervised.{Supervised}
 use Rattle.regulator.specs.declared.Sensed.{Sensed}
 use Rattle.regulator.specs.declared.Ticked.{Ticked}

@@ -7,13 +7,12 @@ use mathlib.Core.Bool.{Bool, true, false, true≢false}
 use mathlib.Core.List.{List, [], _∷_, _++_, append-assoc, tail-eq-of-cons-eq, head-eq-of-cons-eq, cons≢nil}
 use mathlib.Core.Logic.{_⊎_, inl, inr, ⊎-elim, _↔_}
 use lib.ListN.{length, length-append}
-use Rattle.slots.specs.Slots.{slot, continuous}
 use Rattle.ways.specs.declared.Direction.{Direction}
 use Rattle.input.specs.declared.Input.{Input}
 use Rattle.record.specs.declared.Regulator.{Regulator}
 use Rattle.record.specs.Limits.{withinOf}
 use Rattle.common.specs.Choice.{choose}
-use Rattle.claim.specs.Claim.{Tick, All, Some, Begins, Lasting, Waiting, BeganAtZero, InForce, longest, closed}
+use Rattle.claim.specs.Claim.{Tick, All, Some, Begins, Lasting, Waiting, Free, BeganAtZero, InForce, longest, closed}
 use Rattle.claim.proofs.Lists.{all-join, all-map}
 use Rattle.regulator.specs.Lists.{ticksFrom, delayIn, opening}
 use Rattle.regulator.proofs.Steps.{tickAt, nextAt, restAt, waitTo, Linked, accepted-is, accepted-within, settings-kept, within-kept, linked-kept}
@@ -22,10 +21,6 @@ use Rattle.regulator.proofs.Waits.{begun-moves, force-is, force-least, 
 -- Lists of ticks.
 abbrev pub Open : Tick → Type 0
 Open t = closed t ≡ false
-
--- as a waiting tick must be
-abbrev pub Free : Tick → Type 0
-Free t = (slot (t .settings) continuous ≡ 1) ⊎ (closed t ≡ false)
 
 abbrev pub Closed : Tick → Type 0
 Closed t = closed t ≡ true

@@ -28,7 +28,6 @@ use Rattle.record.specs.declared.Regulator.{Regulator}
 use Rattle.record.specs.Limits.{withinOf}
 use Rattle.record.specs.Starting.{freshOf}
 use Rattle.acting.specs.Judging.{blockedOf, sideOf}
-use Rattle.showing.specs.Showing as showing
 use Rattle.acting.specs.Supervising.{clearedOf, followedOf, supervisedOf}
 use Rattle.regulator.specs.declared.Ticked.{Ticked}
 use Rattle.regulator.specs.Ticks.{findingOf, supervisedIn, blockedIn, isOut, outOf, refusedOf, tickOf}

@@ -41,7 +41,7 @@ use Rattle.acting.specs.Commanding.{askOf, situationOf}
 use Rattle.showing.specs.Showing as showing
 use Rattle.regulator.specs.declared.Ticked.{Ticked}
 use Rattle.regulator.specs.Ticks.{isOut, outOf, tickOf}
-use Rattle.claim.specs.Claim.{commandField, blockField, sideField, modeField, delayTo, waitFor, Begins, Waiting, longest, closed}
+use Rattle.claim.specs.Claim.{commandField, blockField, sideField, modeField, delayTo, waitFor, Begins, Waiting, longest}
 use Rattle.regulator.specs.Lists.{delayIn, heldFor, opening}
 use Rattle.regulator.proofs.Next.{pass}
 use Rattle.regulator.proofs.Shown.{given, contactsAt, supervisedAt, blocksAt, situationAt, decidedAt, liveAt, onTo, live-drive, live-wait, live-on, live-automatic, live-manual, live-opposed, live-level, live-run-away, live-not-started, live-long, live-fast, flag-on, no-field, side-level}
