@@ -17,7 +17,7 @@ use Rattle.drive.specs.declared.Drive.the-variants.{Asked}
 use Rattle.drive.specs.declared.follow.Followed.{Followed}
 use Rattle.drive.specs.declared.hold.Holding.{Holding}
 use Rattle.drive.specs.Follow.{unmovedOf, faultyOf}
-use Rattle.drive.specs.Hold.{releasedOf, endsOf, automaticOf, manualOf, heldOf, kindOf, holdOf}
+use Rattle.drive.specs.Hold.{releasedOf, endsOf, automaticOf, manualOf, heldOf, heldFrom, holdOf}
 
 -- the drive after a row of ticks
 abbrev pub after : Drive → List Holding → Drive
@@ -38,7 +38,7 @@ module _ (d : Direction) (automatic : Bool) (t4 : ℕ) where
 
   module _ (n : ℕ) (x : Holding) (k : Keeps x) where
     attended : heldOf d n automatic x ≡ holdOf (Asked d n automatic) x
-    unfolding holdOf kindOf
+    unfolding holdOf heldFrom
     attended = no _ _ _ _ (k .attended) refl
 
     -- below T4 the command is a tick older

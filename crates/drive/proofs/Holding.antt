@@ -5,7 +5,7 @@ use mathlib.Core.Bool.{true, false, true≢false}
 use Prim.Native.Nat.{ℕ, _+_}
 use Rattle.common.proofs.Cases.{either, chosen}
 use Rattle.drive.specs.Follow.{unmovedOf, faultyOf, restsOf}
-use Rattle.drive.specs.Hold.{releasedOf, automaticOf, manualOf, kindOf, holdOf, withinOf}
+use Rattle.drive.specs.Hold.{releasedOf, automaticOf, manualOf, heldFrom, holdOf, withinOf}
 use Rattle.fault.specs.Latches.{isFault, longOrNone}
 use Rattle.fault.specs.declared.Fault.the-variants.{Long}
 use Rattle.drive.specs.declared.Drive.{Drive}
@@ -37,8 +37,8 @@ module _ (x : Holding) where
   unfolding withinOf
   released-good = record { within = refl; stopped = λ p. refl; long = refl }
 
-  kind-good : (s : Drive) → Good (kindOf s x)
-  unfolding kindOf automaticOf manualOf withinOf
+  kind-good : (s : Drive) → Good (heldFrom s x)
+  unfolding heldFrom automaticOf manualOf withinOf
   kind-good Resting = rest-good
   kind-good (Asked d n a) =
       chosen Good _ _ _
@@ -52,7 +52,7 @@ module _ (x : Holding) where
 
   -- at rest: nothing, whatever the contact does
   pub rest-holds : (s : Drive) → restsOf s ≡ true → unmovedOf Resting ≡ holdOf s x
-  unfolding holdOf kindOf
+  unfolding holdOf heldFrom
   rest-holds Resting e = either _ _ _ (x .local) refl refl
   rest-holds (Asked d n a) e = absurd (true≢false (sym e))
   rest-holds (Moving d n m) e = absurd (true≢false (sym e))

@@ -8,7 +8,7 @@ use Rattle.common.specs.Choice.{choose}
 use Rattle.common.proofs.Cases.{cases}
 use Rattle.drive.specs.Follow.{faultyOf, unmovedOf, ownOf, restOf, askedOf, movingOf, supervisedOf, withinOf}
 use Rattle.drive.specs.Hold as hold
-use Rattle.drive.specs.Hold.{endsOf, heldOf, kindOf}
+use Rattle.drive.specs.Hold.{endsOf, heldOf, heldFrom}
 use Rattle.drive.specs.Shown.{onOf}
 use Rattle.ways.specs.declared.Direction.{Direction}
 use Rattle.drive.specs.declared.Drive.{Drive}
@@ -37,16 +37,16 @@ module _ (r : Followed) (x : Contact) where
 
 -- without a switching contact
 module _ (r : Followed) (x : Holding) where
-  pub hold-resting : (s : Drive) → s ≡ Resting → r ≡ unmovedOf Resting → r ≡ kindOf s x
-  unfolding kindOf
+  pub hold-resting : (s : Drive) → s ≡ Resting → r ≡ unmovedOf Resting → r ≡ heldFrom s x
+  unfolding heldFrom
   hold-resting s p q = rw p q
 
-  pub hold-asked : (s : Drive) (d : Direction) (n : ℕ) (a : Bool) → s ≡ Asked d n a → r ≡ heldOf d n a x → r ≡ kindOf s x
-  unfolding kindOf
+  pub hold-asked : (s : Drive) (d : Direction) (n : ℕ) (a : Bool) → s ≡ Asked d n a → r ≡ heldOf d n a x → r ≡ heldFrom s x
+  unfolding heldFrom
   hold-asked s d n a p q = rw p q
 
-  pub hold-moving : (s : Drive) (d : Direction) (n : ℕ) (m : Bool) → s ≡ Moving d n m → r ≡ unmovedOf Resting → r ≡ kindOf s x
-  unfolding kindOf
+  pub hold-moving : (s : Drive) (d : Direction) (n : ℕ) (m : Bool) → s ≡ Moving d n m → r ≡ unmovedOf Resting → r ≡ heldFrom s x
+  unfolding heldFrom
   hold-moving s d n m p q = rw p q
 
 -- what ends an automatic command, over plain values, as the function has them

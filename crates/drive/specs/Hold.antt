@@ -18,7 +18,7 @@ use Rattle.drive.specs.Follow.{unmovedOf, faultyOf}
 abbrev pub releasedOf : Followed
 releasedOf = record { drive = Resting; fault = NoFault; ended = Neither; operation = true }
 
--- a tick that is "in band, on the other side, manual or blocked for it", the command of a direction: its mode or its direction
+-- a tick that is "in band, on the other side, manual or blocked for it", a command of this direction: its mode or its direction
 unfoldable pub endsOf : Direction → Holding → Bool
 endsOf d x = x .«in_band» || otherOf (x .side) (To d) || not (x .automatic) || (x .blocks .automatic || opposedOf (x .blocks) d)
 
@@ -35,14 +35,14 @@ abbrev pub heldOf : Direction → ℕ → Bool → Holding → Followed
 heldOf d age automatic x = choose automatic (automaticOf d age x) (manualOf d age x)
 
 -- by what the drive was as the tick started; "bit 1 is ignored", and an accepted record "holds no move"
-unfoldable pub kindOf : Drive → Holding → Followed
-kindOf Resting x = unmovedOf Resting
-kindOf (Asked d age automatic) x = heldOf d age automatic x
-kindOf (Moving d n commanded) x = unmovedOf Resting
+unfoldable pub heldFrom : Drive → Holding → Followed
+heldFrom Resting x = unmovedOf Resting
+heldFrom (Asked d age automatic) x = heldOf d age automatic x
+heldFrom (Moving d n commanded) x = unmovedOf Resting
 
 -- rule 7 of 01: "local drive: at rest, wait 0, no supervision"
 unfoldable pub holdOf : Drive → Holding → Followed
-holdOf d x = choose (x .local) (unmovedOf Resting) (kindOf d x)
+holdOf d x = choose (x .local) (unmovedOf Resting) (heldFrom d x)
 
 -- limits of a record: "holds no move .., and a held command's age is below T4"
 unfoldable pub withinOf : Drive → ℕ → Bool
