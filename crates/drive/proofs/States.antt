@@ -104,4 +104,7 @@ module _ (w : Way) (t7 : ℕ) where
   on-moving s d n m p q = rw p q
 
 pub ruleset states =
-    (from-resting, from-asked, from-moving, hold-resting, hold-asked, hold-moving, own-neither, own-to, within-resting, within-asked, within-moving, hold-within-resting, hold-within-asked, hold-within-moving, on-resting, on-asked, on-moving, cases)
+    (from-resting, from-asked, from-moving, own-neither, own-to, within-resting, within-asked, within-moving, on-resting, on-asked, on-moving, cases)
+
+-- the same without a switching contact: `search holds`
+pub ruleset holds = (hold-resting, hold-asked, hold-moving, hold-within-resting, hold-within-asked, hold-within-moving, cases)

@@ -1,4 +1,4 @@
-use Rattle.drive.proofs.States.{states}
+use Rattle.common.proofs.Cases.{cases}
 use Rattle.drive.specs.Follow.{askedOf}
 use borrow.Author.Needs.{needs}
 use Rattle.drive.proofs.follow.from_asked.Statement.{statement}
@@ -9,7 +9,7 @@ unmoved-requires c κs = search needs
 
 returns : tie.Need-returns
 unfolding askedOf
-returns c = search states
+returns c = search cases
 
 add-next : tie.Need-add-next
 add-next c = search needs
@@ -25,15 +25,15 @@ faulty-requires-2 c κs = search needs
 
 returns-2 : tie.Need-returns-2
 unfolding askedOf
-returns-2 c = search states
+returns-2 c = search cases
 
 returns-3 : tie.Need-returns-3
 unfolding askedOf
-returns-3 c = search states
+returns-3 c = search cases
 
 returns-4 : tie.Need-returns-4
 unfolding askedOf
-returns-4 c = search states
+returns-4 c = search cases
 
 pub from-asked-spec : {M : Type 1} → statement M
 from-asked-spec =

@@ -1,4 +1,4 @@
-use Rattle.drive.proofs.States.{states}
+use Rattle.common.proofs.Cases.{cases}
 use Rattle.drive.specs.Follow.{movingOf}
 use borrow.Author.Needs.{needs}
 use Rattle.drive.proofs.follow.from_moving.Statement.{statement}
@@ -21,19 +21,19 @@ ended-requires-2 c κs = search needs
 
 returns : tie.Need-returns
 unfolding movingOf
-returns c = search states
+returns c = search cases
 
 returns-2 : tie.Need-returns-2
 unfolding movingOf
-returns-2 c = search states
+returns-2 c = search cases
 
 returns-3 : tie.Need-returns-3
 unfolding movingOf
-returns-3 c = search states
+returns-3 c = search cases
 
 returns-4 : tie.Need-returns-4
 unfolding movingOf
-returns-4 c = search states
+returns-4 c = search cases
 
 pub from-moving-spec : {M : Type 1} → statement M
 from-moving-spec =

@@ -1,4 +1,4 @@
-use Rattle.drive.proofs.States.{states}
+use Rattle.common.proofs.Cases.{cases}
 use Rattle.drive.specs.Follow.{restOf}
 use borrow.Author.Needs.{needs}
 use Rattle.drive.proofs.follow.from_rest.Statement.{statement}
@@ -15,15 +15,15 @@ unmoved-requires c κs = search needs
 
 returns : tie.Need-returns
 unfolding restOf
-returns c = search states
+returns c = search cases
 
 returns-2 : tie.Need-returns-2
 unfolding restOf
-returns-2 c = search states
+returns-2 c = search cases
 
 returns-3 : tie.Need-returns-3
 unfolding restOf
-returns-3 c = search states
+returns-3 c = search cases
 
 pub from-rest-spec : {M : Type 1} → statement M
 from-rest-spec =

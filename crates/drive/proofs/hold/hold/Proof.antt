@@ -1,4 +1,4 @@
-use Rattle.drive.proofs.States.{states}
+use Rattle.drive.proofs.States.{holds}
 use Rattle.drive.specs.Hold.{holdOf}
 use borrow.Author.Needs.{needs}
 use Rattle.drive.proofs.hold.hold.Statement.{statement}
@@ -9,7 +9,7 @@ unmoved-requires c κs = search needs
 
 returns : tie.Need-returns
 unfolding holdOf
-returns c = search states
+returns c = search holds
 
 enum-told : tie.Need-enum-told
 enum-told c = search needs
@@ -31,15 +31,15 @@ unmoved-requires-3 c κs = search needs
 
 returns-2 : tie.Need-returns-2
 unfolding holdOf
-returns-2 c = search states
+returns-2 c = search holds
 
 returns-3 : tie.Need-returns-3
 unfolding holdOf
-returns-3 c = search states
+returns-3 c = search holds
 
 returns-4 : tie.Need-returns-4
 unfolding holdOf
-returns-4 c = search states
+returns-4 c = search holds
 
 pub hold-spec : {M : Type 1} → statement M
 hold-spec =

@@ -1,4 +1,4 @@
-use Rattle.drive.proofs.States.{states}
+use Rattle.common.proofs.Cases.{cases}
 use Rattle.drive.specs.Hold.{automaticOf}
 use borrow.Author.Needs.{needs}
 use Rattle.drive.proofs.hold.hold_automatic.Statement.{statement}
@@ -12,7 +12,7 @@ released-requires c κs = search needs
 
 returns : tie.Need-returns
 unfolding automaticOf
-returns c = search states
+returns c = search cases
 
 add-next : tie.Need-add-next
 add-next c = search needs
@@ -28,15 +28,15 @@ faulty-requires-2 c κs = search needs
 
 returns-2 : tie.Need-returns-2
 unfolding automaticOf
-returns-2 c = search states
+returns-2 c = search cases
 
 returns-3 : tie.Need-returns-3
 unfolding automaticOf
-returns-3 c = search states
+returns-3 c = search cases
 
 returns-4 : tie.Need-returns-4
 unfolding automaticOf
-returns-4 c = search states
+returns-4 c = search cases
 
 pub hold-automatic-spec : {M : Type 1} → statement M
 hold-automatic-spec =

@@ -1,4 +1,4 @@
-use Rattle.drive.proofs.States.{states}
+use Rattle.common.proofs.Cases.{cases}
 use borrow.Author.Needs.{needs}
 use Rattle.drive.proofs.hold.hold_command.Statement.{statement}
 use Rattle.drive.proofs.hold.hold_command.Tie as tie
@@ -10,10 +10,10 @@ hold-manual-requires : tie.Need-hold-manual-requires
 hold-manual-requires c κs = search needs
 
 returns : tie.Need-returns
-returns c = search states
+returns c = search cases
 
 returns-2 : tie.Need-returns-2
-returns-2 c = search states
+returns-2 c = search cases
 
 pub hold-command-spec : {M : Type 1} → statement M
 hold-command-spec =

@@ -1,4 +1,4 @@
-use Rattle.drive.proofs.States.{states}
+use Rattle.common.proofs.Cases.{cases}
 use Rattle.drive.specs.Hold.{manualOf}
 use borrow.Author.Needs.{needs}
 use Rattle.drive.proofs.hold.hold_manual.Statement.{statement}
@@ -18,15 +18,15 @@ released-requires-2 c κs = search needs
 
 returns : tie.Need-returns
 unfolding manualOf
-returns c = search states
+returns c = search cases
 
 returns-2 : tie.Need-returns-2
 unfolding manualOf
-returns-2 c = search states
+returns-2 c = search cases
 
 returns-3 : tie.Need-returns-3
 unfolding manualOf
-returns-3 c = search states
+returns-3 c = search cases
 
 pub hold-manual-spec : {M : Type 1} → statement M
 hold-manual-spec =

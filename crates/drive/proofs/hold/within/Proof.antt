@@ -1,4 +1,4 @@
-use Rattle.drive.proofs.States.{states}
+use Rattle.drive.proofs.States.{holds}
 use borrow.Author.Needs.{needs}
 use Rattle.drive.proofs.hold.within.Statement.{statement}
 use Rattle.drive.proofs.hold.within.Tie as tie
@@ -13,13 +13,13 @@ enum-told-2 : tie.Need-enum-told-2
 enum-told-2 c = search needs
 
 returns : tie.Need-returns
-returns c = search states
+returns c = search holds
 
 returns-2 : tie.Need-returns-2
-returns-2 c = search states
+returns-2 c = search holds
 
 returns-3 : tie.Need-returns-3
-returns-3 c = search states
+returns-3 c = search holds
 
 pub within-spec : {M : Type 1} → statement M
 within-spec = tie.close (tie.spec enum-told enum-known-d enum-told-2 returns returns-2 returns-3)
