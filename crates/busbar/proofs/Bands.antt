@@ -13,7 +13,8 @@ use mir.Facts.{toZ-ofZ}
 use Rattle.common.proofs.Cases.{yes, no}
 use Rattle.busbar.specs.Deviation.{lowOf, highOf, bandOf}
 use Rattle.busbar.specs.declared.voltage.Level.the-variants.{Low, InBand, High}
-use Rattle.busbar.proofs.Signed.{Stands, exactly, literal, fits, read, back, cast, add, sub, mul, half-le, least}
+use Rattle.common.proofs.Signed.{Stands, exactly, literal, fits, read, back, cast, add, sub, mul}
+use Rattle.busbar.proofs.Halves.{half-le, least}
 
 -- u and the half of n, as they are read back
 pub half-test : (u n : ℤ) → SFits w64 u → SFits w64 n → leZ (read u) (read (shrZ (read n) 2)) ≡ leZ (pos 2 *ℤ u) n

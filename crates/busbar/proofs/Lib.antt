@@ -1,4 +1,4 @@
-pub mod Signed
+pub mod Halves
 pub mod Values
 pub mod Bands
 pub mod Laws

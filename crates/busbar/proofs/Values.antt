@@ -27,7 +27,7 @@ use Rattle.busbar.specs.declared.voltage.Level.{Level}
 use Rattle.busbar.specs.declared.voltage.Level.the-variants as level
 use Rattle.busbar.specs.declared.voltage.Value.{Value}
 use Rattle.busbar.specs.declared.voltage.Value.the-variants.{Missing, Is}
-use Rattle.busbar.proofs.Signed.{natAbs-add, natAbs-sub, Stands, exactly, small, fits, read, back, cast, add, sub, mul, quot}
+use Rattle.common.proofs.Signed.{natAbs-add, natAbs-sub, Stands, exactly, small, fits, read, back, cast, add, sub, mul, quot}
 
 -- ---- section
 

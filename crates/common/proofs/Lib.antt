@@ -4,3 +4,4 @@ pub mod Fill
 pub mod Joined
 pub mod Places
 pub mod Walks
+pub mod Signed

@@ -1,9 +1,10 @@
-// What a tick brings: six readings, the contacts and keys, the BCD lines and the sensor byte.
+// What a tick brings: six readings, three pairs of readings, the contacts and keys, the BCD lines and the sensor byte.
 ghost use mathlib.Core.Path.{_≡_};
 ghost use Rattle.input.specs.Brought.{contactsOf, currentOf, readingsOf};
 use measure::Channel;
 use measure::Measured;
 use measure::Reading;
+use phasor::Phasors;
 
 pub struct Input {
     pub u_ab: Reading,
@@ -12,6 +13,7 @@ pub struct Input {
     pub i_high: Reading,
     pub i_bus: Reading,
     pub i_coupler: Reading,
+    pub phasors: Phasors,
     pub contacts: u32,
     pub bcd: u8,
     pub sensor: u8,
