@@ -4,19 +4,19 @@ use mathlib.Core.Path.{_≡_, refl, sym, _∙_, ap}
 use mathlib.Core.Bool.{Bool, true, false, _&&_}
 use mathlib.Core.List.{List}
 use Prim.Native.Nat.{ℕ, _+_, _*_, _<_, _≤_}
-use native.Mathlib.Nat.{mul-le-mul, mul-one, le-refl, le-trans}
+use native.Mathlib.Nat.{le-trans}
 use native.Mathlib.Omega.{arith}
 use lib.Dec.{leb, ltb}
 use borrow.Author.Tests.{leb-true, ltb-true}
 use Rattle.common.specs.Choice.{choose}
-use Rattle.common.proofs.Cases.{chosen}
-use Rattle.slots.specs.Slots.{slot, t1, t2, t3, t4, t5, t6, t7, t8, organDelays, organLimits, uSupp, dU, uComp, uSet5, nPos, nR, nL, nStart, nMax, slidingTaps, slots}
-use Rattle.sheet.specs.Table.{rowOf, rowIn, moduleFactor, factorOf, lowOf, highOf, takenOf, takenBy}
+use Rattle.slots.specs.Slots.{slot, resistance, reactance, t1, t2, t3, t4, t5, t6, t7, t8, organDelays, organLimits, uSupp, dU, uComp, uSet5, nPos, nR, nL, nStart, nMax, slidingTaps, slots}
+use Rattle.sheet.specs.Table.{Row, rowOf, rowIn, moduleFactor, factorOf, lowOf, highOf, takenOf, takenBy}
 use Rattle.sheet.specs.Sheet.{isTaken, takenIn, judgeOf, passesOf, answerOf}
 use Rattle.sheet.specs.declared.Answer.{Answer}
 use Rattle.sheet.specs.declared.Answer.the-variants.{Taken, WrongLength, OutOfRange, TapOrder, CountedTap}
 use Rattle.common.proofs.Joined.{and-left, and-right}
 use Rattle.sheet.proofs.Every.{allBelow, every}
+use Rattle.sheet.proofs.Tables.{with-module}
 use Rattle.sheet.proofs.Exact.{Kept, judged-kept, exact}
 use Rattle.sheet.proofs.Answers.{answer-right}
 
@@ -40,19 +40,13 @@ module _ (s : List ℕ) where
   pub taken-pass : answerOf s ≡ Taken → passesOf s ≡ true
   taken-pass e = judged-pass (sym (answer-right s (exact s .0 e .size)) ∙ e)
 
--- k is 1 to 5, and no bound of a row grows by more
-factor-pos : (s : List ℕ) → (1 ≤ moduleFactor s) × (moduleFactor s ≤ 5)
-unfolding moduleFactor
-factor-pos s = chosen (λ n. (1 ≤ n) × (n ≤ 5)) _ 5 1 (λ t. (omega arith, omega arith)) (λ t. (omega arith, omega arith))
+-- whether all that a row takes, by k, is within l to h
+abbrev rowWithin : ℕ → ℕ → Row → ℕ → Bool
+rowWithin l h r k = leb l (r .low * r .scale k) && leb (r .high * r .scale k) h
 
--- the largest number that a slot's row takes, with either module
-abbrev topOf : ℕ → ℕ
-topOf i = rowOf i .high * choose (rowOf i .scaled) 5 1
-
-row-bounds : (b : Bool) (k l h : ℕ) → 1 ≤ k → k ≤ 5 → (l ≤ l * choose b k 1) × (h * choose b k 1 ≤ h * choose b 5 1)
-unfolding choose
-row-bounds true k l h p q = (rw mul-one at (mul-le-mul (le-refl l) p), mul-le-mul (le-refl h) q)
-row-bounds false k l h p q = (omega arith, le-refl (h * 1))
+-- whether slot i is one, and its row is within l to h with either module
+abbrev pub slotWithin : ℕ → ℕ → ℕ → Bool
+slotWithin l h i = ltb i slots && (rowWithin l h (rowOf i) 1 && rowWithin l h (rowOf i) 5)
 
 module _ (s : List ℕ) (e : passesOf s ≡ true) where
   kept : Kept s
@@ -66,22 +60,18 @@ module _ (s : List ℕ) (e : passesOf s ≡ true) where
       (leb-true _ _ (and-left _ _ t), leb-true _ _ (and-left _ _ (and-right (leb (lowOf (moduleFactor s) i) (slot s i)) _ t)))
 
   -- and so within bounds that hold with either module
-  pub in-row : (i : ℕ) → i < slots → (rowOf i .low ≤ slot s i) × (slot s i ≤ topOf i)
+  pub in-row : (l h i : ℕ) → slotWithin l h i ≡ true → (l ≤ slot s i) × (slot s i ≤ h)
   unfolding lowOf highOf factorOf
-  in-row i h =
-      let b = row-bounds (rowOf i .scaled) (moduleFactor s) (rowOf i .low) (rowOf i .high) (factor-pos s .0) (factor-pos s .1) in
-      (le-trans (b .0) (in-range i h .0), le-trans (in-range i h .1) (b .1))
+  in-row l h i t =
+      let r = in-range i (ltb-true _ _ (and-left _ _ t)) in
+      let b = and-right (ltb i slots) _ t in
+      let w = with-module (λ k. rowWithin l h (rowOf i) k ≡ true) (and-left _ _ b) (and-right (rowWithin l h (rowOf i) 1) _ b) s refl in
+      (le-trans (leb-true _ _ (and-left _ _ w)) (r .0), le-trans (r .1) (leb-true _ _ (and-right (leb l (lowOf (moduleFactor s) i)) _ w)))
 
   -- the n slots from a are all within l to h, where antt computes that their rows are
-  pub in-run : (a n l h : ℕ) → allBelow (λ (j : ℕ). ltb (a + j) slots && (leb l (rowOf (a + j) .low) && leb (topOf (a + j)) h)) n ≡ true
-      → (j : ℕ) → j < n → (l ≤ slot s (a + j)) × (slot s (a + j) ≤ h)
-  in-run a n l h t j p =
-      let c = every (λ (j : ℕ). ltb (a + j) slots && (leb l (rowOf (a + j) .low) && leb (topOf (a + j)) h)) n t j p in
-      let i : a + j < slots = ltb-true _ _ (and-left _ _ c) in
-      let d = and-right (ltb (a + j) slots) _ c in
-      let lo : l ≤ rowOf (a + j) .low = leb-true _ _ (and-left _ _ d) in
-      let hi : topOf (a + j) ≤ h = leb-true _ _ (and-right (leb l (rowOf (a + j) .low)) _ d) in
-      (le-trans lo (in-row (a + j) i .0), le-trans (in-row (a + j) i .1) hi)
+  pub in-run : (a n l h : ℕ) → allBelow (λ (j : ℕ). slotWithin l h (a + j)) n ≡ true → (j : ℕ) → j < n
+      → (l ≤ slot s (a + j)) × (slot s (a + j) ≤ h)
+  in-run a n l h t j p = in-row l h (a + j) (every (λ (j : ℕ). slotWithin l h (a + j)) n t j p)
 
   -- T1–T5
   pub t1-range : (20 ≤ slot s t1) × (slot s t1 ≤ 36000)
@@ -154,6 +144,15 @@ module _ (s : List ℕ) (e : passesOf s ≡ true) where
   pub sliding-most : (j : ℕ) → j < 10 → slot s (slidingTaps + j) ≤ 40
   unfolding rowOf rowIn choose
   sliding-most j h = in-run slidingTaps 10 0 40 refl j h .1
+
+  -- R and X
+  pub resistance-most : slot s resistance ≤ 400000
+  unfolding rowOf rowIn choose
+  resistance-most = in-run resistance 1 0 400000 refl 0 (omega arith) .1
+
+  pub reactance-most : slot s reactance ≤ 400000
+  unfolding rowOf rowIn choose
+  reactance-most = in-run reactance 1 0 400000 refl 0 (omega arith) .1
 
   -- 1 ≤ N_L < N_R ≤ 40, and N_pos within
   pub taps-range : (1 ≤ slot s nL) × (slot s nL < slot s nR) × (slot s nR ≤ 40) × (slot s nL ≤ slot s nPos) × (slot s nPos ≤ slot s nR)

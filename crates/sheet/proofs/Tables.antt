@@ -1,11 +1,11 @@
--- The constant tables are the columns of the paper's rows, scaled by k, and no product of theirs with k wraps. antt computes it at
+-- The constant tables are the columns of the paper's rows, scaled by k, and no product of theirs wraps. antt computes it at
 -- each slot, for both modules.
 -- Assumes nothing.
 use mathlib.Core.Path.{_≡_, refl}
 use mathlib.Core.Bool.{Bool, true, _||_}
 use mathlib.Core.List.{List}
-use Prim.Native.Nat.{ℕ, _*_, _≤_, _<_}
-use native.Mathlib.Nat.{mul-le-mul}
+use Prim.Native.Nat.{ℕ, _*_, _/_, _≤_, _<_}
+use native.Mathlib.Nat.{mul-le-mul, div-le-self, le-trans}
 use native.Mathlib.Omega.{arith}
 use lib.ListN.{getD}
 use lib.Dec.{eqb}
@@ -22,9 +22,12 @@ use Rattle.sheet.proofs.Every.{every}
 
 -- k is 1 or 5: what holds with both holds with the sheet's
 module _ (P : ℕ → Type 0) (one : P 1) (five : P 5) (s : List ℕ) where
-  with-module : {k : ℕ} → k ≡ moduleFactor s → P k
+  pub with-module : {k : ℕ} → k ≡ moduleFactor s → P k
   unfolding moduleFactor
   with-module e = rw e (chosen P _ 5 1 (λ t. five) (λ t. one))
+
+pub factor-ge : (s : List ℕ) {k : ℕ} → k ≡ moduleFactor s → 1 ≤ k
+factor-ge s = with-module (λ k. 1 ≤ k) (omega arith) (omega arith) s
 
 pub factor-le : (s : List ℕ) {k : ℕ} → k ≡ moduleFactor s → k ≤ 5
 factor-le s = with-module (λ k. k ≤ 5) (omega arith) (omega arith) s
@@ -32,6 +35,10 @@ factor-le s = with-module (λ k. k ≤ 5) (omega arith) (omega arith) s
 -- a number of a current row times k fits
 pub times-fits : {n k : ℕ} → n ≤ 40000 → k ≤ 5 → Fits w32 (n * k)
 times-fits p q = fits-le {n = 40000 * 5} (mul-le-mul p q) (fits-lit tt)
+
+-- and of an impedance row times m ÷ k
+pub inverse-fits : {n m : ℕ} (k : ℕ) → n ≤ 80000 → m ≤ 5 → Fits w32 (n * (m / k))
+inverse-fits {m = m} k p q = fits-le {n = 80000 * 5} (mul-le-mul p (le-trans (div-le-self m k) q)) (fits-lit tt)
 
 -- the columns of a list's ranges, at every slot
 pub record Columns (s : List ℕ) (lows highs steps : List ℕ) : Type 0 where

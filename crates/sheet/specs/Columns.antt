@@ -1,8 +1,8 @@
 -- The columns that the code holds the table in: what its own functions say to each other, and no promise to a caller.
-use Prim.Native.Nat.{ℕ, zero, suc, _*_}
+use Prim.Native.Nat.{ℕ, zero, suc, _*_, _/_}
 use mathlib.Core.List.{List, [], _∷_}
 use lib.ListN.{getD, set}
-use Rattle.slots.specs.Slots.{slots, iSet1, iSet2, iSet3}
+use Rattle.slots.specs.Slots.{slots, iSet1, iSet2, iSet3, resistance, reactance}
 use Rattle.sheet.specs.Table.{Row, rowOf}
 
 -- a part of the row of each of the n slots from i, and of all
@@ -20,5 +20,9 @@ unfoldable pub stepColumn : List ℕ
 stepColumn = columnFrom (λ r. r .step) 0 slots
 
 -- a column with its current rows, 25 to 27, times k
+abbrev currentsBy : ℕ → List ℕ → List ℕ
+currentsBy k l = set (set (set l iSet1 (getD l iSet1 0 * k)) iSet2 (getD l iSet2 0 * k)) iSet3 (getD l iSet3 0 * k)
+
+-- and with its impedance rows, 64 and 65, times 5 ÷ k
 unfoldable pub timesK : ℕ → List ℕ → List ℕ
-timesK k l = set (set (set l iSet1 (getD l iSet1 0 * k)) iSet2 (getD l iSet2 0 * k)) iSet3 (getD l iSet3 0 * k)
+timesK k l = set (set (currentsBy k l) resistance (getD l resistance 0 * (5 / k))) reactance (getD l reactance 0 * (5 / k))

@@ -1,27 +1,32 @@
 -- The paper's table of the ranges, row by row, and the numbers that it takes.
-use Prim.Native.Nat.{ℕ, _+_, _-_, _*_, _%_, _≤_}
+use Prim.Native.Nat.{ℕ, _+_, _-_, _*_, _/_, _%_, _≤_}
 use mathlib.Core.Path.{_≡_}
-use mathlib.Core.Bool.{Bool, true, false, _&&_}
+use mathlib.Core.Bool.{Bool, _&&_}
 use mathlib.Core.List.{List, [], _∷_}
 use lib.Dec.{leb, eqb}
 use Rattle.common.specs.Choice.{choose}
 use Rattle.slots.specs.Slots.{slot, moduleKind}
 
--- a row: its slots, first to last, their low, high and step, and whether low and high are times k
+-- a row: its slots, first to last, their low, high and step, and what low and high are times, by k
 pub record Row : Type 0 where
   pub first : ℕ
   pub last : ℕ
   pub low : ℕ
   pub high : ℕ
   pub step : ℕ
-  pub scaled : Bool
+  pub scale : ℕ → ℕ
 
+-- a row whose range is the same with either module
 abbrev row : ℕ → ℕ → ℕ → ℕ → ℕ → Row
-row a b l h s = record { first = a; last = b; low = l; high = h; step = s; scaled = false }
+row a b l h s = record { first = a; last = b; low = l; high = h; step = s; scale = λ k. 1 }
 
--- a current row: low and high are times k
-abbrev rowK : ℕ → ℕ → ℕ → ℕ → ℕ → Row
-rowK a b l h s = record { first = a; last = b; low = l; high = h; step = s; scaled = true }
+-- a current's row: it grows with k, and stands as for 1 A
+abbrev rowI : ℕ → ℕ → ℕ → ℕ → ℕ → Row
+rowI a b l h s = record { first = a; last = b; low = l; high = h; step = s; scale = λ k. k }
+
+-- an impedance's row: it shrinks with k, and stands as for 5 A
+abbrev rowZ : ℕ → ℕ → ℕ → ℕ → ℕ → Row
+rowZ a b l h s = record { first = a; last = b; low = l; high = h; step = s; scale = λ k. 5 / k }
 
 -- slots, low–high, step, in the paper's order
 abbrev pub rows : List Row
@@ -32,8 +37,8 @@ rows =
     row 1 1 0 1 1 ∷
     -- section needs load current
     row 2 2 0 1 1 ∷
-    -- compensation
-    row 3 3 0 1 1 ∷
+    -- compensation; 02, ticket 3: "slot 3 takes 2"
+    row 3 3 0 2 1 ∷
     -- its current
     row 4 4 0 3 1 ∷
     -- tap from
@@ -55,9 +60,9 @@ rows =
     -- dU, U_comp
     row 23 24 1000 40000 100 ∷
     -- I_set1, 2
-    rowK 25 26 100 40000 1 ∷
+    rowI 25 26 100 40000 1 ∷
     -- I_set3
-    rowK 27 27 50 5000 1 ∷
+    rowI 27 27 50 5000 1 ∷
     -- U_set1, U_set5
     row 28 28 5000 200000 100 ∷
     row 32 32 5000 200000 100 ∷
@@ -83,6 +88,8 @@ rows =
     row 53 62 0 40 1 ∷
     -- 02, ticket 2: continuous regulation
     row 63 63 0 1 1 ∷
+    -- 02, ticket 3: "R and X in mΩ, 0–80,000 with 5 A, 0–400,000 with 1 A"
+    rowZ 64 65 0 80000 1 ∷
     []
 
 -- the row that has the slot; 0–0 for what is no slot
@@ -97,9 +104,9 @@ rowOf i = rowIn rows i
 unfoldable pub moduleFactor : List ℕ → ℕ
 moduleFactor s = choose (eqb (slot s moduleKind) 1) 5 1
 
--- k at a current row, else 1
+-- what the slot's low and high are times: k for a current, 5 ÷ k for an impedance, else 1
 unfoldable pub factorOf : ℕ → ℕ → ℕ
-factorOf k i = choose (rowOf i .scaled) k 1
+factorOf k i = rowOf i .scale k
 
 unfoldable pub lowOf : ℕ → ℕ → ℕ
 lowOf k i = rowOf i .low * factorOf k i

@@ -13,6 +13,8 @@ use slots::MODULE;
 use slots::N_L;
 use slots::N_POS;
 use slots::N_R;
+use slots::REACTANCE;
+use slots::RESISTANCE;
 use slots::SLOTS;
 use slots::TAP_SOURCE;
 ghost use mathlib.Core.Path.{_≡_};
@@ -50,15 +52,18 @@ pub fn module_factor(s: &[u32; SLOTS]) -> u32
     if s[MODULE] == 1 { 5 } else { 1 }
 }
 
-// A column of the table with its current rows scaled by k.
+// A column of the table with its current rows times k and its impedance rows times 5 / k.
 fn times_k(column: [u32; SLOTS], k: u32) -> [u32; SLOTS]
-    requires { ⌜ (k ≤ 5) × (getD column 25 0 ≤ 40000) × (getD column 26 0 ≤ 40000) × (getD column 27 0 ≤ 40000) ⌝ }
+    requires { ⌜ (1 ≤ k) × (k ≤ 5) × (getD column 25 0 ≤ 40000) × (getD column 26 0 ≤ 40000) × (getD column 27 0 ≤ 40000) × (getD column 64 0 ≤ 80000) × (getD column 65 0 ≤ 80000) ⌝ }
     ensures { λ r. ⌜ r ≡ timesK k column ⌝ }
 {
+    let inverse = 5 / k;
     let mut scaled = column;
     scaled[I_SET1] = column[I_SET1] * k;
     scaled[I_SET2] = column[I_SET2] * k;
     scaled[I_SET3] = column[I_SET3] * k;
+    scaled[RESISTANCE] = column[RESISTANCE] * inverse;
+    scaled[REACTANCE] = column[REACTANCE] * inverse;
     scaled
 }
 

@@ -1,5 +1,5 @@
 // The fixed list of ranges: low, high and step of each slot. The current rows, 25 to 27, stand as for a 1 A module and are
-// scaled by k.
+// times k; the impedance rows, 64 and 65, stand as for a 5 A module and are times 5 / k.
 use slots::SLOTS;
 
 pub const LOW: [u32; SLOTS] = [
@@ -67,13 +67,15 @@ pub const LOW: [u32; SLOTS] = [
     0, // 61 sliding tap 9
     0, // 62 sliding tap 10
     0, // 63 continuous regulation
+    0, // 64 R, times 5 / k
+    0, // 65 X, times 5 / k
 ];
 
 pub const HIGH: [u32; SLOTS] = [
     1, // 0 in service
     1, // 1 module
     1, // 2 section needs load current
-    1, // 3 compensation
+    2, // 3 compensation
     3, // 4 its current
     4, // 5 tap from
     1, // 6 organ 6 on
@@ -134,6 +136,8 @@ pub const HIGH: [u32; SLOTS] = [
     40, // 61 sliding tap 9
     40, // 62 sliding tap 10
     1, // 63 continuous regulation
+    80000, // 64 R, times 5 / k
+    80000, // 65 X, times 5 / k
 ];
 
 pub const STEP: [u32; SLOTS] = [
@@ -201,4 +205,6 @@ pub const STEP: [u32; SLOTS] = [
     1, // 61 sliding tap 9
     1, // 62 sliding tap 10
     1, // 63 continuous regulation
+    1, // 64 R, times 5 / k
+    1, // 65 X, times 5 / k
 ];

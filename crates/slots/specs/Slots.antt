@@ -11,7 +11,7 @@ slot s i = getD s i 0
 
 -- how many slots there are
 abbrev pub slots : ℕ
-slots = 64
+slots = 66
 
 abbrev pub inService : ℕ
 inService = 0
@@ -130,6 +130,13 @@ slidingTaps = 53
 -- 02, ticket 2: "slot 63 .. chooses continuous regulation", for a drive without a switching contact
 abbrev pub continuous : ℕ
 continuous = 63
+
+-- 02, ticket 3: "Slots 64 and 65 are R and X in mΩ", of the line
+abbrev pub resistance : ℕ
+resistance = 64
+
+abbrev pub reactance : ℕ
+reactance = 65
 
 abbrev pub isContinuous : List ℕ → Bool
 isContinuous s = eqb (slot s continuous) 1

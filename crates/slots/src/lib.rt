@@ -1,5 +1,5 @@
 // The slots of the setting sheet, by name. A run of slots has the name of its first; `specs/Slots.antt` has the same names.
-pub const SLOTS: usize = 64;
+pub const SLOTS: usize = 66;
 
 pub const IN_SERVICE: usize = 0;
 
@@ -74,3 +74,7 @@ pub const N_MAX: usize = 52;
 pub const SLIDING_TAPS: usize = 53;
 // The kind of drive: 0 with a switching contact, 1 without one, regulated continuously.
 pub const CONTINUOUS: usize = 63;
+// The line's R and X in mΩ.
+pub const RESISTANCE: usize = 64;
+
+pub const REACTANCE: usize = 65;

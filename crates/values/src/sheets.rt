@@ -77,6 +77,8 @@ pub const BASE: [u32; SLOTS] = [
     0,
     0,
     0,
+    4_000,
+    3_000,
 ];
 
 // One slot more and one slot less than a sheet has.
@@ -85,7 +87,7 @@ const LONGER: usize = SLOTS + 1;
 const SHORTER: usize = SLOTS - 1;
 
 // The numbers that are tried at each slot.
-const TRIED: [u32; 46] = [
+const TRIED: [u32; 49] = [
     0,
     1,
     2,
@@ -132,6 +134,9 @@ const TRIED: [u32; 46] = [
     1_900,
     4_900,
     79_900,
+    80_001,
+    400_000,
+    400_001,
 ];
 
 // The same sheet for a 5 A module.
@@ -183,12 +188,12 @@ pub(crate) fn print_lengths() {
 }
 
 // What the answer's number counts for in the checksum.
-const NUMBER: u64 = 64;
+const NUMBER: u64 = 1_000;
 
 // What the answer to the sheet with one slot set adds to the checksum.
 fn weight(base: [u32; SLOTS], i: usize, x: u32) -> u64
     requires { ⌜ i < slots ⌝ }
-    ensures { λ r. ⌜ r < 1099511627776 ⌝ }
+    ensures { λ r. ⌜ r < 8796093022208 ⌝ }
 {
     let mut list = base;
     list[i] = x;

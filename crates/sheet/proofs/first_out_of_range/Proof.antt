@@ -9,7 +9,7 @@ use Rattle.slots.specs.Slots.{slots}
 use Rattle.common.specs.Choice.{choose}
 use Rattle.sheet.specs.Table.{rowOf, rowIn}
 use Rattle.sheet.specs.Columns.{lowColumn, highColumn, stepColumn}
-use Rattle.sheet.proofs.Tables.{factor-le, Columns, columns, step-kind}
+use Rattle.sheet.proofs.Tables.{factor-ge, factor-le, Columns, columns, step-kind}
 use Rattle.sheet.proofs.First.{From, from-start, first-on, first-here, first-past}
 use Rattle.sheet.proofs.first_out_of_range.Statement.{statement}
 use Rattle.sheet.proofs.first_out_of_range.Tie as tie
@@ -25,10 +25,10 @@ module-factor-requires : tie.Need-module-factor-requires Inv-loop μ-loop
 module-factor-requires c κs = search needs
 
 times-k-requires : tie.Need-times-k-requires Inv-loop μ-loop
-times-k-requires c κs = search (needs, factor-le)
+times-k-requires c κs = search (needs, factor-ge, factor-le)
 
 times-k-requires-2 : tie.Need-times-k-requires-2 Inv-loop μ-loop
-times-k-requires-2 c κs = search (needs, factor-le)
+times-k-requires-2 c κs = search (needs, factor-ge, factor-le)
 
 loop-holds : tie.Need-loop-holds Inv-loop μ-loop
 unfolding lowColumn highColumn stepColumn rowOf rowIn choose

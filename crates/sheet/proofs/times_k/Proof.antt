@@ -2,9 +2,12 @@
 -- Assumes nothing.
 use borrow.Author.Needs.{needs}
 use Rattle.sheet.specs.Columns.{timesK}
-use Rattle.sheet.proofs.Tables.{times-fits}
+use Rattle.sheet.proofs.Tables.{times-fits, inverse-fits}
 use Rattle.sheet.proofs.times_k.Statement.{statement}
 use Rattle.sheet.proofs.times_k.Tie as tie
+
+div-inverse : tie.Need-div-inverse
+div-inverse c = search needs
 
 array-read-scaled : tie.Need-array-read-scaled
 array-read-scaled c = search needs
@@ -33,6 +36,24 @@ mul-scaled-3 c = search (needs, times-fits)
 array-write-scaled-3 : tie.Need-array-write-scaled-3
 array-write-scaled-3 c = search needs
 
+array-read-scaled-4 : tie.Need-array-read-scaled-4
+array-read-scaled-4 c = search needs
+
+mul-scaled-4 : tie.Need-mul-scaled-4
+mul-scaled-4 c = search (needs, inverse-fits)
+
+array-write-scaled-4 : tie.Need-array-write-scaled-4
+array-write-scaled-4 c = search needs
+
+array-read-scaled-5 : tie.Need-array-read-scaled-5
+array-read-scaled-5 c = search needs
+
+mul-scaled-5 : tie.Need-mul-scaled-5
+mul-scaled-5 c = search (needs, inverse-fits)
+
+array-write-scaled-5 : tie.Need-array-write-scaled-5
+array-write-scaled-5 c = search needs
+
 returns : tie.Need-returns
 unfolding timesK
 returns c = search needs
@@ -41,6 +62,7 @@ pub times-k-spec : {M : Type 1} → statement M
 times-k-spec =
     tie.close
     (tie.spec
+    div-inverse
     array-read-scaled
     mul-scaled
     array-write-scaled
@@ -50,4 +72,10 @@ times-k-spec =
     array-read-scaled-3
     mul-scaled-3
     array-write-scaled-3
+    array-read-scaled-4
+    mul-scaled-4
+    array-write-scaled-4
+    array-read-scaled-5
+    mul-scaled-5
+    array-write-scaled-5
     returns)
