@@ -4,7 +4,7 @@
 use mathlib.Core.Path.{_≡_, refl, sym, ap, subst, _∙_}
 use mathlib.Core.Bool.{Bool, true, false, cond}
 use Prim.Native.Nat.{ℕ, zero, suc, _+_, _-_, _*_, _/_, _<_, _≤_, _^_}
-use native.Mathlib.Nat.{le-refl, le-trans, le-of-eq, lt-of-le-of-lt, mul-le-mul, div-le-self}
+use native.Mathlib.Nat.{le-refl, le-trans, le-of-eq, lt-of-le-of-lt, mul-le-mul, div-le-self, le-div-iff-mul-le, div-mul-le-self}
 use native.Mathlib.Omega.{arith}
 use borrow.Author.Tests.{ltb-true}
 use lib.Dec.{T, ltb}
@@ -49,6 +49,15 @@ natAbs-quot (pos a) (negsuc b) = le-trans (le-of-eq (natAbs-neg (pos (a / suc b)
 natAbs-quot (negsuc a) (pos b) = le-trans (le-of-eq (natAbs-neg (pos (suc a / b)))) (div-le-self (suc a) b)
 natAbs-quot (negsuc a) (negsuc b) = div-le-self (suc a) (suc b)
 
+natAbs-divided : (x : ℤ) (b : ℕ) → natAbs (quotZ x (pos b)) ≡ natAbs x / b
+natAbs-divided (pos a) b = refl
+natAbs-divided (negsuc a) b = natAbs-neg (pos (suc a / b))
+
+-- a square is the square of the magnitude
+pub square : (z : ℤ) → z *ℤ z ≡ pos (natAbs z * natAbs z)
+square (pos a) = refl
+square (negsuc a) = refl
+
 mag-natAbs : (z : ℤ) → mag z ≤ natAbs z
 mag-natAbs (pos n) = le-refl n
 mag-natAbs (negsuc n) = omega arith
@@ -68,13 +77,13 @@ literal n = exactly (pos n) (le-refl n)
 pub small : {t z : ℤ} {b : ℕ} → Stands t z b → natAbs t ≤ b
 small s = rw (s .is) (s .within)
 
+T-true : (b : Bool) → T b → b ≡ true
+T-true true h = refl
+T-true false h = absurd h
+
 pub fits : {t z : ℤ} {b : ℕ} → Stands t z b → T (ltb b (2 ^ 63)) → SFits w64 t
 fits {t} {z} {b} s l =
     subst (SFits w64) (sym (s .is)) (record { sfits = lt-of-le-of-lt (le-trans (mag-natAbs z) (s .within)) (ltb-true b (2 ^ 63) (T-true (ltb b (2 ^ 63)) l)) })
-  where
-    T-true : (b : Bool) → T b → b ≡ true
-    T-true true h = refl
-    T-true false h = absurd h
 
 -- what is read back from the bits of a local
 abbrev pub read : ℤ → ℤ
@@ -86,6 +95,22 @@ back s l = record { is = toZ-ofZ (fits s l) ∙ s .is; within = s .within }
 -- a u32 cast to i64
 pub cast : {n : ℕ} → n < 2 ^ 32 → Stands (toZ w64 n) (pos n) (2 ^ 32)
 cast {n} h = record { is = toZ-pos w64 (omega arith); within = omega arith }
+
+-- one whose bound is known
+pub cast-to : {n : ℕ} (b : ℕ) → n ≤ b → T (ltb b (2 ^ 32)) → Stands (toZ w64 n) (pos n) b
+cast-to {n} b h l = record { is = cast (lt-of-le-of-lt h (ltb-true b (2 ^ 32) (T-true (ltb b (2 ^ 32)) l))) .is; within = h }
+
+-- divided by a literal
+pub divided : {s x : ℤ} {a : ℕ} → Stands s x a → (b : ℕ) → 0 < b → Stands (quotZ s (pos b)) (quotZ x (pos b)) (a / b)
+divided {s} {x} {a} p b h =
+    record {
+      is = ap (λ (z : ℤ). quotZ z (pos b)) (p .is);
+      within = le-trans (le-of-eq (natAbs-divided x b)) (le-div-iff-mul-le {k = b} {x = natAbs x / b} {y = a} h .1 (le-trans (div-mul-le-self (natAbs x) b) (p .within)));
+    }
+
+-- a looser bound
+pub looser : {t z : ℤ} {a : ℕ} (b : ℕ) → a ≤ b → Stands t z a → Stands t z b
+looser b h s = record { is = s .is; within = le-trans (s .within) h }
 
 module _ {s x t y : ℤ} {a b : ℕ} (p : Stands s x a) (q : Stands t y b) where
   pub add : Stands (s +ℤ t) (x +ℤ y) (a + b)

@@ -84,7 +84,7 @@ pub fn decode_contacts(n: u32) -> Contacts
 }
 
 // The range of a current, by the module's rated current.
-fn current_channel(five_ampere: bool) -> Channel
+pub fn current_channel(five_ampere: bool) -> Channel
     ensures { λ r. ⌜ r ≡ currentOf «five_ampere» ⌝ }
 {
     if five_ampere {

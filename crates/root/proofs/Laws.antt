@@ -127,6 +127,7 @@ module _ (n r i : ℕ) (low : 0 < i) (few : i ≤ 32) (b : Between n r (2 ^ i)) 
     where
       whole : r + 2 ^ (i - 1) + 2 ^ (i - 1) ≡ r + 2 ^ i
       whole = omega (arith, twice i low)
+
       either : Between n (withStep n r (2 ^ (i - 1))) (2 ^ (i - 1))
       either =
           chosen (λ (t : ℕ). Between n t (2 ^ (i - 1))) (squareWithin n (r + 2 ^ (i - 1))) (r + 2 ^ (i - 1)) r

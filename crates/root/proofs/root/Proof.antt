@@ -3,9 +3,6 @@ use borrow.Author.Needs.{needs}
 use Rattle.root.proofs.Laws.{Between, begun, room, halved, answer}
 use Rattle.root.proofs.root.Statement.{statement}
 use Rattle.root.proofs.root.Tie as tie
-use Rattle.root.proofs.root.Reads as reads
-use Rattle.root.proofs.root.Lts as lts
-use Rattle.root.proofs.with_step.Reads as with-step-reads
 
 abbrev Inv-loop : tie.InvT-loop
 Inv-loop n r₀ i₀ r i = (i ≤ 32) × Between n r (2 ^ i)
@@ -13,35 +10,27 @@ Inv-loop n r₀ i₀ r i = (i ≤ 32) × Between n r (2 ^ i)
 abbrev μ-loop : tie.MeasureT-loop
 μ-loop n r₀ i₀ r i = i
 
--- src/lib.rt:25:5
 loop-holds : tie.Need-loop-holds Inv-loop μ-loop
 loop-holds c = (search needs, search (needs, begun))
 
--- src/lib.rt:26:9
 sub-i : tie.Need-sub-i Inv-loop μ-loop
 sub-i c = search needs
 
--- src/lib.rt:27:34
 cast-with-step : tie.Need-cast-with-step Inv-loop μ-loop
 cast-with-step c = search needs
 
--- src/lib.rt:27:29
 shl-with-step : tie.Need-shl-with-step Inv-loop μ-loop
 shl-with-step c = search needs
 
--- src/lib.rt:27:9
 with-step-requires : tie.Need-with-step-requires Inv-loop μ-loop
 with-step-requires c κs = search (needs, room)
 
--- src/lib.rt:25:5
 loop-less : tie.Need-loop-less Inv-loop μ-loop
 loop-less c = search needs
 
--- src/lib.rt:25:5
 loop-again : tie.Need-loop-again Inv-loop μ-loop
 loop-again c = (search needs, search (needs, halved))
 
--- src/lib.rt:19:1
 returns : tie.Need-returns Inv-loop μ-loop
 returns c = answer _ _ _ (search needs) (c .before .loop .inv .1)
 

@@ -3,23 +3,17 @@ use Rattle.root.specs.Roots.{withStep}
 use borrow.Author.Needs.{needs}
 use Rattle.root.proofs.with_step.Statement.{statement}
 use Rattle.root.proofs.with_step.Tie as tie
-use Rattle.root.proofs.with_step.Reads as reads
-use Rattle.root.proofs.with_step.Lts as lts
 
--- src/lib.rt:14:13
 add-t : tie.Need-add-t
 add-t c = search needs
 
--- src/lib.rt:15:8
 mul-if1 : tie.Need-mul-if1
 mul-if1 c = search steps
 
--- src/lib.rt:10:1
 returns : tie.Need-returns
 unfolding withStep
 returns c = search steps
 
--- src/lib.rt:10:1
 returns-2 : tie.Need-returns-2
 unfolding withStep
 returns-2 c = search steps

@@ -1,0 +1,45 @@
+use Rattle.line.proofs.Parts.{pairs}
+use borrow.Author.Needs.{needs}
+use Rattle.line.proofs.difference.Statement.{statement}
+use Rattle.line.proofs.difference.Tie as tie
+
+enum-told : tie.Need-enum-told
+enum-told c = search needs
+
+enum-known-a : tie.Need-enum-known-a
+enum-known-a c = search needs
+
+enum-told-2 : tie.Need-enum-told-2
+enum-told-2 c = search needs
+
+enum-known-b : tie.Need-enum-known-b
+enum-known-b c = search needs
+
+sub-t9 : tie.Need-sub-t9
+sub-t9 c = search pairs
+
+sub-t10 : tie.Need-sub-t10
+sub-t10 c = search pairs
+
+returns : tie.Need-returns
+returns c = search pairs
+
+returns-2 : tie.Need-returns-2
+returns-2 c = search pairs
+
+returns-3 : tie.Need-returns-3
+returns-3 c = search pairs
+
+pub difference-spec : {M : Type 1} → statement M
+difference-spec =
+    tie.close
+    (tie.spec
+    enum-told
+    enum-known-a
+    enum-told-2
+    enum-known-b
+    sub-t9
+    sub-t10
+    returns
+    returns-2
+    returns-3)

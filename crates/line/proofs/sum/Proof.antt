@@ -1,0 +1,45 @@
+use Rattle.line.proofs.Parts.{pairs}
+use borrow.Author.Needs.{needs}
+use Rattle.line.proofs.sum.Statement.{statement}
+use Rattle.line.proofs.sum.Tie as tie
+
+enum-told : tie.Need-enum-told
+enum-told c = search needs
+
+enum-known-a : tie.Need-enum-known-a
+enum-known-a c = search needs
+
+enum-told-2 : tie.Need-enum-told-2
+enum-told-2 c = search needs
+
+enum-known-b : tie.Need-enum-known-b
+enum-known-b c = search needs
+
+add-t9 : tie.Need-add-t9
+add-t9 c = search pairs
+
+add-t10 : tie.Need-add-t10
+add-t10 c = search pairs
+
+returns : tie.Need-returns
+returns c = search pairs
+
+returns-2 : tie.Need-returns-2
+returns-2 c = search pairs
+
+returns-3 : tie.Need-returns-3
+returns-3 c = search pairs
+
+pub sum-spec : {M : Type 1} → statement M
+sum-spec =
+    tie.close
+    (tie.spec
+    enum-told
+    enum-known-a
+    enum-told-2
+    enum-known-b
+    add-t9
+    add-t10
+    returns
+    returns-2
+    returns-3)

@@ -1,0 +1,160 @@
+// The voltage at the end of a line: U_AB as a pair, less the drop that the current makes along the line's impedance.
+ghost use mathlib.Core.Path.{_≡_};
+ghost use Prim.Native.Nat.{_≤_, _^_};
+ghost use lib.IntN.{natAbs};
+ghost use Rattle.phasor.specs.Pairs.{Within};
+ghost use Rattle.line.specs.Along.{highest, mostPart, mostCurrent, mostProduct, mostDrop, mostRemains, sumOf, differenceOf, pickedOf, scaledOf, dropRe, dropIm, remainsOf, squaresOf, magnitudeOf, farEndOf, alongOf};
+use busbar::voltage::Value;
+use measure::Channel;
+use phasor::Phasors;
+use phasor::Vector;
+use slots::COMPENSATION_CURRENT;
+use slots::MODULE;
+use slots::REACTANCE;
+use slots::RESISTANCE;
+use slots::SLOTS;
+
+// 400 Ω: no sheet that is taken has more.
+const HIGHEST: u32 = 400_000;
+
+// The sum of two pairs, part by part, missing if either is.
+fn sum(a: Vector, b: Vector) -> Vector
+    requires { ⌜ Within mostPart a × Within mostPart b ⌝ }
+    ensures { λ r. ⌜ r ≡ sumOf a b ⌝ }
+{
+    match a {
+        Vector::Missing => Vector::Missing,
+        Vector::Is { re: p, im: q } => match b {
+            Vector::Missing => Vector::Missing,
+            Vector::Is { re: x, im: y } => Vector::Is {
+                re: p + x,
+                im: q + y,
+            },
+        },
+    }
+}
+
+// The difference of two pairs, part by part, missing if either is.
+fn difference(a: Vector, b: Vector) -> Vector
+    requires { ⌜ Within mostPart a × Within mostPart b ⌝ }
+    ensures { λ r. ⌜ r ≡ differenceOf a b ⌝ }
+{
+    match a {
+        Vector::Missing => Vector::Missing,
+        Vector::Is { re: p, im: q } => match b {
+            Vector::Missing => Vector::Missing,
+            Vector::Is { re: x, im: y } => Vector::Is {
+                re: p - x,
+                im: q - y,
+            },
+        },
+    }
+}
+
+// The current that slot 4 picks; only the pairs that it names are needed.
+fn current(s: &[u32; SLOTS], bus: Vector, coupler: Vector) -> Vector
+    requires { ⌜ Within mostPart bus × Within mostPart coupler ⌝ }
+    ensures { λ r. ⌜ r ≡ pickedOf (now (s .entry)) bus coupler ⌝ }
+{
+    if s[COMPENSATION_CURRENT] == 0 {
+        return bus;
+    }
+    if s[COMPENSATION_CURRENT] == 1 {
+        return coupler;
+    }
+    if s[COMPENSATION_CURRENT] == 2 {
+        difference(bus, coupler)
+    } else {
+        sum(bus, coupler)
+    }
+}
+
+// A drop in mV by a product in µV: √3 times as much, rounded toward zero.
+fn scaled(product: i64) -> i64
+    requires { ⌜ natAbs product ≤ mostProduct ⌝ }
+    ensures { λ r. ⌜ (r ≡ scaledOf product) × (natAbs r ≤ mostDrop) ⌝ }
+{
+    product * 1_732_051 / 1_000_000_000
+}
+
+// The drop's real part.
+fn drop_re(r: u32, x: u32, re: i64, im: i64) -> i64
+    requires { ⌜ (r ≤ highest) × (x ≤ highest) × (natAbs re ≤ mostCurrent) × (natAbs im ≤ mostCurrent) ⌝ }
+    ensures { λ d. ⌜ (d ≡ dropRe r x re im) × (natAbs d ≤ mostDrop) ⌝ }
+{
+    scaled((r as i64) * re - (x as i64) * im)
+}
+
+// The drop's imaginary part.
+fn drop_im(r: u32, x: u32, re: i64, im: i64) -> i64
+    requires { ⌜ (r ≤ highest) × (x ≤ highest) × (natAbs re ≤ mostCurrent) × (natAbs im ≤ mostCurrent) ⌝ }
+    ensures { λ d. ⌜ (d ≡ dropIm r x re im) × (natAbs d ≤ mostDrop) ⌝ }
+{
+    scaled((r as i64) * im + (x as i64) * re)
+}
+
+// The sum of the squares.
+fn squares(re: i64, im: i64) -> u64
+    requires { ⌜ (natAbs re ≤ mostRemains) × (natAbs im ≤ mostRemains) ⌝ }
+    ensures { λ r. ⌜ (r ≡ squaresOf re im) × (r ≤ 2 ^ 61) ⌝ }
+{
+    (re * re + im * im) as u64
+}
+
+// What remains of U_AB behind the drop, missing if either pair is.
+fn remains(r: u32, x: u32, u: Vector, i: Vector) -> Vector
+    requires { ⌜ (r ≤ highest) × (x ≤ highest) × Within mostPart u × Within mostCurrent i ⌝ }
+    ensures { λ v. ⌜ v ≡ remainsOf r x u i ⌝ }
+{
+    match u {
+        Vector::Missing => Vector::Missing,
+        Vector::Is { re: p, im: q } => match i {
+            Vector::Missing => Vector::Missing,
+            Vector::Is { re, im } => Vector::Is {
+                re: p - drop_re(r, x, re, im),
+                im: q - drop_im(r, x, re, im),
+            },
+        },
+    }
+}
+
+// The magnitude of what remains.
+fn magnitude(v: Vector) -> Value
+    requires { ⌜ Within mostRemains v ⌝ }
+    ensures { λ r. ⌜ r ≡ magnitudeOf v ⌝ }
+{
+    match v {
+        Vector::Missing => Value::Missing,
+        Vector::Is { re, im } => Value::Is(root::root(squares(re, im)) as i64),
+    }
+}
+
+// U by the pairs as they count. An impedance above what a sheet can hold is missing.
+fn far_end(s: &[u32; SLOTS], u: Vector, i: Vector) -> Value
+    requires { ⌜ Within mostPart u × Within mostCurrent i ⌝ }
+    ensures { λ r. ⌜ r ≡ farEndOf (now (s .entry)) u i ⌝ }
+{
+    let r = s[RESISTANCE];
+    let x = s[REACTANCE];
+    if r <= HIGHEST {
+        if x <= HIGHEST {
+            return magnitude(remains(r, x, u, i));
+        }
+    }
+    Value::Missing
+}
+
+// U along the line.
+pub fn voltage(s: &[u32; SLOTS], p: Phasors) -> Value
+    ensures { λ r. ⌜ r ≡ alongOf (now (s .entry)) p ⌝ }
+{
+    let amperes = input::current_channel(s[MODULE] == 1);
+    let a = p.u_ab;
+    let b = p.i_bus;
+    let c = p.i_coupler;
+    let u = phasor::measure_pair(Channel::Voltage, a);
+    let bus = phasor::measure_pair(amperes, b);
+    let coupler = phasor::measure_pair(amperes, c);
+    let i = current(s, bus, coupler);
+    far_end(s, u, i)
+}
