@@ -1,9 +1,10 @@
 //! What a tick brings.
 
+use crate::phasor::Pair;
 use crate::reading::Reading;
 
 /// How many readings a tick brings.
-pub const READINGS: usize = 6;
+pub const READINGS: usize = 12;
 
 /// How many contacts there are; the bits after them are ignored.
 pub const CONTACTS: u32 = 21;
@@ -19,6 +20,10 @@ pub struct Input {
     pub i_high: Reading,
     pub i_bus: Reading,
     pub i_coupler: Reading,
+    /// U_AB once more, as a phasor; so are the two currents.
+    pub u_ab_pair: Pair,
+    pub i_bus_pair: Pair,
+    pub i_coupler_pair: Pair,
     pub contacts: Contacts,
     /// Bits 0-3 units, 4-6 tens, 7 ignored.
     pub bcd: u8,
@@ -28,13 +33,41 @@ pub struct Input {
 impl Input {
     /// What a tick brings, its readings in the order of a recording.
     pub fn of(readings: [Reading; READINGS], contacts: u32, bcd: u8, sensor: u8) -> Input {
-        let [u_ab, u_zero, u_negative, i_high, i_bus, i_coupler] = readings;
-        Input { u_ab, u_zero, u_negative, i_high, i_bus, i_coupler, contacts: Contacts(contacts), bcd, sensor }
+        let [u_ab, u_zero, u_negative, i_high, i_bus, i_coupler, pairs @ ..] = readings;
+        let [u_re, u_im, bus_re, bus_im, coupler_re, coupler_im] = pairs;
+        Input {
+            u_ab,
+            u_zero,
+            u_negative,
+            i_high,
+            i_bus,
+            i_coupler,
+            u_ab_pair: Pair { re: u_re, im: u_im },
+            i_bus_pair: Pair { re: bus_re, im: bus_im },
+            i_coupler_pair: Pair { re: coupler_re, im: coupler_im },
+            contacts: Contacts(contacts),
+            bcd,
+            sensor,
+        }
     }
 
     /// The readings in that order.
     pub fn readings(&self) -> [Reading; READINGS] {
-        [self.u_ab, self.u_zero, self.u_negative, self.i_high, self.i_bus, self.i_coupler]
+        let (u, bus, coupler) = (self.u_ab_pair, self.i_bus_pair, self.i_coupler_pair);
+        [
+            self.u_ab,
+            self.u_zero,
+            self.u_negative,
+            self.i_high,
+            self.i_bus,
+            self.i_coupler,
+            u.re,
+            u.im,
+            bus.re,
+            bus.im,
+            coupler.re,
+            coupler.im,
+        ]
     }
 }
 

@@ -2,8 +2,9 @@
 //!
 //! The rules and their numbers are those of the scope paper ("What to make,
 //! and the rules of one tick"), changed by ticket 1, "Readings to the nearest
-//! thousandth", and ticket 2, "Drives without a switching contact". A tick is
-//! 5 ms. Delays count ticks, voltages are in mV, currents in mA.
+//! thousandth", ticket 2, "Drives without a switching contact", and ticket 3,
+//! "Compensation along the line's impedance". A tick is 5 ms. Delays count ticks,
+//! voltages are in mV, currents in mA, R and X in mΩ.
 //!
 //! * [`sheet::check`] takes or refuses a setting sheet,
 //! * [`tick::tick`] advances a record by one tick and gives its outputs.
@@ -15,11 +16,15 @@ pub mod command;
 pub mod continuous;
 pub mod dice;
 pub mod drive;
+pub mod feeder;
+pub mod floats;
 pub mod input;
+pub mod line;
 pub mod make;
 pub mod make_sheet;
 pub mod motor;
 pub mod organs;
+pub mod phasor;
 pub mod plant;
 pub mod reading;
 pub mod record;

@@ -1,7 +1,7 @@
 //! Chance setting sheets that pass the check.
 
 use crate::dice::Dice;
-use crate::sheet::{is_continuous, module_k, slot, Settings, RANGES, SLOTS};
+use crate::sheet::{is_continuous, module_k, slot, Scale, Settings, RANGES, SLOTS};
 use crate::tap::source;
 
 /// A sheet: ordinary, at corners of its ranges, or with long delays.
@@ -26,6 +26,7 @@ fn ordinary(dice: &mut Dice) -> Settings {
     switches(dice, &mut settings);
     voltages(dice, &mut settings);
     currents(dice, &mut settings);
+    impedance(dice, &mut settings);
     delays(dice, &mut settings);
     taps(dice, &mut settings);
     settings
@@ -34,7 +35,7 @@ fn ordinary(dice: &mut Dice) -> Settings {
 fn switches(dice: &mut Dice, settings: &mut Settings) {
     settings[slot::MODULE] = dice.between(0, 1);
     settings[slot::SECTION_NEEDS_CURRENT] = u32::from(dice.one_in(3));
-    settings[slot::COMPENSATION] = dice.between(0, 1);
+    settings[slot::COMPENSATION] = dice.between(0, 2);
     settings[slot::COMPENSATION_CURRENT] = dice.between(0, 3);
     settings[slot::TAP_SOURCE] = dice.between(0, 4);
     settings[slot::CONTINUOUS] = dice.between(0, 1);
@@ -74,6 +75,20 @@ fn currents(dice: &mut Dice, settings: &mut Settings) {
     settings[slot::I_SET3] = dice.between(50 * k, 400 * k);
 }
 
+/// R and X: mostly of a few ohms, now and then one of them alone, neither, or
+/// anything up to the highest taken.
+fn impedance(dice: &mut Dice, settings: &mut Settings) {
+    let k = module_k(settings);
+    for i in [slot::R, slot::X] {
+        let (_, high) = RANGES[i].ends(k);
+        let most = dice.pick(&[0, 100, 2_000, 8_000, 8_000, 30_000, high]);
+        settings[i] = match dice.one_in(8) {
+            true => most,
+            false => dice.between(0, most),
+        };
+    }
+}
+
 fn delays(dice: &mut Dice, settings: &mut Settings) {
     for t in [slot::T1, slot::T2, slot::T3, slot::T5, slot::T8] {
         let longest = dice.pick(&[24, 30, 60]);
@@ -111,7 +126,7 @@ fn taps(dice: &mut Dice, settings: &mut Settings) {
 fn push_to_corners(dice: &mut Dice, settings: &mut Settings) {
     let often = dice.pick(&[2, 4, 10]);
     for (i, range) in RANGES.iter().enumerate() {
-        if [slot::MODULE, slot::CONTINUOUS].contains(&i) || range.times_k || !dice.one_in(often) {
+        if [slot::MODULE, slot::CONTINUOUS].contains(&i) || range.scale != Scale::Fixed || !dice.one_in(often) {
             continue;
         }
         let steps = (range.high - range.low) / range.step;
@@ -123,15 +138,15 @@ fn push_to_corners(dice: &mut Dice, settings: &mut Settings) {
             _ => range.low + range.step * dice.between(0, steps.min(5)),
         };
     }
-    corner_currents(dice, settings);
+    corner_scaled(dice, settings);
 }
 
-/// The current rows, whose ends depend on the module.
-fn corner_currents(dice: &mut Dice, settings: &mut Settings) {
+/// The rows whose ends depend on the module.
+fn corner_scaled(dice: &mut Dice, settings: &mut Settings) {
     let k = module_k(settings);
-    for i in slot::I_SET1..=slot::I_SET3 {
-        if dice.one_in(4) {
-            let (low, high) = RANGES[i].ends(k);
+    for (i, range) in RANGES.iter().enumerate() {
+        if range.scale != Scale::Fixed && dice.one_in(4) {
+            let (low, high) = range.ends(k);
             settings[i] = dice.pick(&[low, low + 1, high - 1, high]);
         }
     }

@@ -32,6 +32,23 @@ impl Reading {
             Reading::Held(_) | Reading::Invalid => None,
         }
     }
+
+    /// The value as one part of a pair; Held is as good as missing.
+    pub fn good_part(self, limit: u32) -> Option<i32> {
+        match self {
+            Reading::Good(x) => signed_thousandths(x, limit),
+            Reading::Held(_) | Reading::Invalid => None,
+        }
+    }
+}
+
+/// "... each part a reading in the range −200 to 200 V or −40k to 40k A, rounded
+/// by magnitude with the sign kept": nothing if `x` is not finite, below `-limit`
+/// or above `limit`; -0.0 is 0.
+pub fn signed_thousandths(x: f32, limit: u32) -> Option<i32> {
+    let magnitude = thousandths(x.abs(), limit)?;
+    let magnitude = i32::try_from(magnitude).expect("at most 200,000 by the range test");
+    Some(if x < 0.0 { -magnitude } else { magnitude })
 }
 
 /// The whole number of thousandths nearest to `x`, a half going up; nothing if

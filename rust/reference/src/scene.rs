@@ -1,6 +1,8 @@
 //! A regulator in a simulated substation, tick after tick.
 
 use crate::dice::Dice;
+use crate::feeder::{self, goes_by_pairs, length};
+use crate::floats::{float_of, floats_beside, part_of, parts_beside, BESIDE};
 use crate::input::{bit, Input, CONTACTS, READINGS};
 use crate::make_sheet;
 use crate::motor::Motor;
@@ -8,9 +10,9 @@ use crate::plant::Plant;
 use crate::reading::Reading;
 use crate::record::{Direction, Record};
 use crate::sheet::{is_continuous, module_k, slot, Settings};
-use crate::stretch::{others, Buttons, Level, Stretch, LOWER, RAISE};
+use crate::stretch::{others, Buttons, Level, Others, Stretch, LOWER, RAISE};
 use crate::tick::{tick, Ticked, OUTPUTS};
-use crate::voltage::compensation;
+use crate::voltage::{compensated, compensation, picked};
 
 /// The regulator, the drive and the stretch of ticks they are in.
 pub struct Scene {
@@ -57,13 +59,50 @@ impl Scene {
         if self.dice.one_in(100) {
             self.stretch.others = others(&mut self.dice, &settings);
         }
-        let mut numbers = [self.u_ab(&settings, contacts); READINGS];
-        numbers[1..].copy_from_slice(&self.stretch.others);
-        let mut readings = numbers.map(|number| self.reading(number));
-        if self.disturbs(&settings) && self.dice.one_in(4) {
-            readings[0] = self.spoiled(float_of(numbers[0]));
+        let (scalars, parts) = self.numbers(&settings, contacts);
+        let mut readings = [Reading::Invalid; READINGS];
+        let places = readings.iter_mut();
+        let numbers = scalars.map(Number::Scalar).into_iter().chain(parts.map(Number::Part));
+        for (place, number) in places.zip(numbers) {
+            *place = self.reading(number);
         }
+        self.spoil(&settings, &mut readings);
         Input::of(readings, contacts, self.bcd(), self.sensor())
+    }
+
+    /// What is measured: the scalars and the pairs' parts, in whole thousandths.
+    fn numbers(&mut self, settings: &Settings, contacts: u32) -> ([u32; SCALARS], [i32; READINGS - SCALARS]) {
+        let u = self.voltage_at(self.stretch.level, settings, contacts) + self.motor.lift;
+        let Others { scalars: others, bus, coupler } = self.stretch.others;
+        let u_pair = match goes_by_pairs(settings) {
+            true => {
+                let current = picked(settings, Some(bus), Some(coupler)).expect("both are there");
+                feeder::u_ab(&mut self.dice, settings, u.max(0) as u32, current)
+            }
+            false => feeder::any_u_ab(&mut self.dice),
+        };
+        let u_ab = match (goes_by_pairs(settings), self.stretch.scalar_level) {
+            (false, _) => u + less(settings, &others),
+            (true, Some(level)) => self.voltage_at(level, settings, contacts),
+            (true, None) => i64::from(length(u_pair)),
+        };
+        let mut scalars = [u_ab.clamp(0, 200_000) as u32; SCALARS];
+        scalars[1..].copy_from_slice(&others);
+        (scalars, [u_pair.re, u_pair.im, bus.re, bus.im, coupler.re, coupler.im])
+    }
+
+    /// Spoils what U needs while a command is held, now and then, and in some
+    /// stretches what it does not need.
+    fn spoil(&mut self, settings: &Settings, readings: &mut [Reading; READINGS]) {
+        if self.disturbs(settings) && self.dice.one_in(4) {
+            let place = self.dice.pick(needed(settings));
+            readings[place] = self.spoiled(readings[place]);
+        }
+        for &place in unneeded(settings) {
+            if self.dice.one_in(self.stretch.unneeded_noise) {
+                readings[place] = self.spoiled(readings[place]);
+            }
+        }
     }
 
     /// The steady contacts, the drive's, the buttons, reset, and flips.
@@ -117,8 +156,8 @@ impl Scene {
         self.motor.ticks > 0 && self.dice.one_in(often)
     }
 
-    /// U_AB, in mV, that brings U to the stretch's level.
-    fn u_ab(&mut self, settings: &Settings, contacts: u32) -> u32 {
+    /// The voltage of a level, in mV.
+    fn voltage_at(&mut self, level: Level, settings: &Settings, contacts: u32) -> i64 {
         let chosen = match (contacts >> bit::U_SUPP2) & 7 {
             4..=7 => 3,
             2..=3 => 2,
@@ -127,41 +166,37 @@ impl Scene {
         };
         let support = i64::from(settings[slot::U_SUPP + chosen]);
         let half = i64::from(settings[slot::DU]) / 2;
-        let u = match self.stretch.level {
+        match level {
             Level::FromLowEdge(by) => support - half + by,
             Level::FromHighEdge(by) => support + half + by,
             Level::FromSlot(slot, by) => i64::from(settings[slot]) + by,
             Level::Wander => support - 2 * half + i64::from(self.dice.between(0, 4 * half as u32)),
-        };
-        let [_, _, _, bus, coupler, ..] = self.stretch.others.map(i64::from);
-        let current = match settings[slot::COMPENSATION_CURRENT] {
-            0 => bus,
-            1 => coupler,
-            2 => bus - coupler,
-            _ => bus + coupler,
-        };
-        let less = match settings[slot::COMPENSATION] {
-            0 => 0,
-            _ => compensation(settings[slot::U_COMP], current, module_k(settings)),
-        };
-        (u + less + self.motor.lift).clamp(0, 200_000) as u32
-    }
-
-    /// A reading that counts as so many thousandths, sometimes spoiled; one in
-    /// four lies beside its number.
-    fn reading(&mut self, number: u32) -> Reading {
-        let float = match self.dice.between(0, 4 * BESIDE as u32 - 1) as usize {
-            place @ 0..BESIDE => floats_beside(number)[place],
-            _ => float_of(number),
-        };
-        match self.dice.one_in(self.stretch.noise * 3) {
-            true => self.spoiled(float),
-            false => Reading::Good(float),
         }
     }
 
-    /// Held, missing, or at an end of the range.
-    fn spoiled(&mut self, float: f32) -> Reading {
+    /// A reading that counts as this number, sometimes spoiled; one in four lies
+    /// beside its number.
+    fn reading(&mut self, number: Number) -> Reading {
+        let place = self.dice.between(0, 4 * BESIDE as u32 - 1) as usize;
+        let float = match (number, place) {
+            (Number::Scalar(number), 0..BESIDE) => floats_beside(number)[place],
+            (Number::Scalar(number), _) => float_of(number),
+            (Number::Part(part), 0..BESIDE) => parts_beside(part)[place],
+            (Number::Part(part), _) => part_of(part),
+        };
+        let reading = Reading::Good(float);
+        match self.dice.one_in(self.stretch.noise * 3) {
+            true => self.spoiled(reading),
+            false => reading,
+        }
+    }
+
+    /// Held, missing, or at an end of a range.
+    fn spoiled(&mut self, reading: Reading) -> Reading {
+        let float = match reading {
+            Reading::Good(x) | Reading::Held(x) => x,
+            Reading::Invalid => 0.0,
+        };
         let dice = &mut self.dice;
         match dice.between(0, 9) {
             0..=2 => Reading::Held(float),
@@ -170,8 +205,8 @@ impl Scene {
             5 => Reading::Held(f32::from_bits(dice.bits())),
             6 => Reading::Good(dice.pick(&[f32::NAN, f32::INFINITY, f32::NEG_INFINITY])),
             7 => Reading::Good(dice.pick(&[-0.0, -float, f32::from_bits(1), f32::MAX])),
-            8 => Reading::Good(f32::from_bits(dice.pick(&[0x4348_0000, 0x4348_0001]))),
-            _ => Reading::Good(f32::from_bits(dice.pick(&[0x4220_0000, 0x4220_0001]))),
+            8 => Reading::Good(f32::from_bits(dice.pick(&VOLT_ENDS))),
+            _ => Reading::Good(f32::from_bits(dice.pick(&AMP_ENDS))),
         }
     }
 
@@ -191,38 +226,48 @@ impl Scene {
     }
 }
 
-/// The float nearest to this number of thousandths, up to 200,000. It is less
-/// than a hundredth of a thousandth away, so it counts as just this number.
-pub fn float_of(number: u32) -> f32 {
-    number as f32 / 1_000.0
+/// How many of the readings are scalars; the pairs' parts come after them.
+const SCALARS: usize = 6;
+
+/// What a reading is to count as.
+#[derive(Clone, Copy)]
+enum Number {
+    Scalar(u32),
+    Part(i32),
 }
 
-/// How many floats beside its number a reading can be.
-pub const BESIDE: usize = 5;
+/// 200 and 40, -200 and -40, by their bits, and the next float past each.
+const VOLT_ENDS: [u32; 4] = [0x4348_0000, 0x4348_0001, 0xC348_0000, 0xC348_0001];
+const AMP_ENDS: [u32; 4] = [0x4220_0000, 0x4220_0001, 0xC220_0000, 0xC220_0001];
 
-/// Floats between two thousandths that count as this number, up to 200,000:
-/// the first two past the half below it, one a bit nearer on either side, and
-/// the last before the half above. Where a float can hold the half below, which
-/// is rare, all are that half. Those below 0 or above the limit are missing.
-pub fn floats_beside(number: u32) -> [f32; BESIDE] {
-    let first = first_from_half_below(number);
-    // (number - 1/2) / 1,000 is (2 number - 1) / (16 x 125).
-    if 2 * number % 125 == 1 {
-        return [first; BESIDE];
+/// Which readings are worth spoiling since U needs them, by their place: U_AB,
+/// or the pairs that slots 3 and 4 name.
+fn needed(settings: &Settings) -> &'static [usize] {
+    match (goes_by_pairs(settings), settings[slot::COMPENSATION_CURRENT]) {
+        (false, _) => &[0],
+        (true, 0) => &[6, 7, 8, 9],
+        (true, 1) => &[6, 7, 10, 11],
+        (true, _) => &[6, 7, 8, 9, 10, 11],
     }
-    let last = first_from_half_below(number + 1).next_down();
-    let off = |by: f64| ((f64::from(number) + by) / 1_000.0) as f32;
-    [first, first.next_up(), off(-0.45), off(0.45), last]
 }
 
-/// The first float not below the half before this number of thousandths: the
-/// half itself where a float can hold it.
-fn first_from_half_below(number: u32) -> f32 {
-    let half = f64::from(number) - 0.5;
-    let nearest = (half / 1_000.0) as f32;
-    // Exact: 24 bits and the 10 of 1,000 fit into the 53 of f64.
-    match f64::from(nearest) * 1_000.0 < half {
-        true => nearest.next_up(),
-        false => nearest,
+/// Which readings U does not need, by their place: the scalar U_AB and the pair
+/// that slot 4 does not pick, or all pairs.
+fn unneeded(settings: &Settings) -> &'static [usize] {
+    match (goes_by_pairs(settings), settings[slot::COMPENSATION_CURRENT]) {
+        (false, _) => &[6, 7, 8, 9, 10, 11],
+        (true, 0) => &[0, 10, 11],
+        (true, 1) => &[0, 8, 9],
+        (true, _) => &[0],
+    }
+}
+
+/// By how many mV U is less than U_AB if slot 3 is 1.
+fn less(settings: &Settings, others: &[u32; SCALARS - 1]) -> i64 {
+    let [_, _, _, bus, coupler] = others.map(i64::from);
+    let current = picked(settings, Some(bus), Some(coupler)).expect("both are there");
+    match settings[slot::COMPENSATION] {
+        compensated::BY_U_COMP => compensation(settings[slot::U_COMP], current, module_k(settings)),
+        _ => 0,
     }
 }

@@ -3,7 +3,7 @@
 use crate::tap::source;
 
 /// How many numbers a sheet has.
-pub const SLOTS: usize = 64;
+pub const SLOTS: usize = 66;
 
 /// How many of them are sliding taps.
 pub const SLIDING_TAPS: usize = 10;
@@ -58,6 +58,9 @@ pub mod slot {
     pub const SLIDING: usize = 53;
     /// Continuous regulation, of a drive without a switching contact.
     pub const CONTINUOUS: usize = 63;
+    /// R and X of the line, in mΩ.
+    pub const R: usize = 64;
+    pub const X: usize = 65;
 }
 
 /// A slot takes low + a whole multiple of step, up to high.
@@ -66,17 +69,30 @@ pub struct Range {
     pub low: u32,
     pub high: u32,
     pub step: u32,
-    /// Low and high are to be multiplied by the module's k.
-    pub times_k: bool,
+    pub scale: Scale,
+}
+
+/// What a row's low and high have to do with the module's k.
+#[derive(Clone, Copy, Debug, PartialEq, Eq)]
+pub enum Scale {
+    /// Nothing.
+    Fixed,
+    /// They are to be multiplied by it.
+    TimesK,
+    /// They are to be divided by it.
+    DividedByK,
 }
 
 const fn range(low: u32, high: u32, step: u32) -> Range {
-    Range { low, high, step, times_k: false }
+    Range { low, high, step, scale: Scale::Fixed }
 }
 
 const fn current(low: u32, high: u32) -> Range {
-    Range { low, high, step: 1, times_k: true }
+    Range { low, high, step: 1, scale: Scale::TimesK }
 }
+
+/// 0–400,000 with 1 A, 0–80,000 with 5 A.
+const IMPEDANCE: Range = Range { low: 0, high: 400_000, step: 1, scale: Scale::DividedByK };
 
 const FLAG: Range = range(0, 1, 1);
 const SUPPORT: Range = range(80_000, 140_000, 100);
@@ -89,7 +105,7 @@ const TAP_OR_EMPTY: Range = range(0, 40, 1);
 #[rustfmt::skip]
 pub const RANGES: [Range; SLOTS] = [
     // 0-5: service, module, section, compensation, its current, tap source
-    FLAG, FLAG, FLAG, FLAG, range(0, 3, 1), range(0, 4, 1),
+    FLAG, FLAG, FLAG, range(0, 2, 1), range(0, 3, 1), range(0, 4, 1),
     // 6-12: organs on
     FLAG, FLAG, FLAG, FLAG, FLAG, FLAG, FLAG,
     // 13-18: blocking by organs, end tap, supply trip, wear, manual
@@ -119,13 +135,19 @@ pub const RANGES: [Range; SLOTS] = [
     TAP_OR_EMPTY, TAP_OR_EMPTY, TAP_OR_EMPTY, TAP_OR_EMPTY, TAP_OR_EMPTY,
     // 63: continuous regulation
     FLAG,
+    // 64, 65: R, X
+    IMPEDANCE, IMPEDANCE,
 ];
 
 impl Range {
     /// The lowest and highest number taken with a module of `k` A.
     pub fn ends(&self, k: u32) -> (u32, u32) {
-        let factor = if self.times_k { k } else { 1 };
-        (self.low * factor, self.high * factor)
+        let scaled = |end| match self.scale {
+            Scale::Fixed => end,
+            Scale::TimesK => end * k,
+            Scale::DividedByK => end / k,
+        };
+        (scaled(self.low), scaled(self.high))
     }
 
     /// Whether `number` is taken with a module of `k` A.

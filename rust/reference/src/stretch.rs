@@ -1,8 +1,10 @@
 //! Stretches of ticks during which little changes.
 
 use crate::dice::Dice;
-use crate::input::{bit, READINGS};
+use crate::feeder;
+use crate::input::bit;
 use crate::motor::MOTOR_TEMPERS;
+use crate::phasor::Phasor;
 use crate::plant::{Temper, TEMPERS};
 use crate::reading::amp_limit;
 use crate::sheet::{is_continuous, module_k, slot, Settings};
@@ -32,14 +34,27 @@ pub struct Stretch {
     pub left: u32,
     pub contacts: u32,
     pub level: Level,
+    /// Where the scalar U_AB stays if U goes by the pairs; without it, it is as
+    /// long as its pair.
+    pub scalar_level: Option<Level>,
     pub temper: Temper,
     pub buttons: Buttons,
-    /// The readings after U_AB, in whole thousandths.
-    pub others: [u32; READINGS - 1],
+    pub others: Others,
     /// One tick in so many has a spoiled reading or tap byte.
     pub noise: u32,
+    /// A reading that U does not need is spoiled on one tick in so many.
+    pub unneeded_noise: u32,
     /// One tick in so many has a flipped contact.
     pub flips: u32,
+}
+
+/// The readings besides U_AB and its pair, in whole thousandths.
+#[derive(Clone, Copy)]
+pub struct Others {
+    /// 3U0, U2, I_high, I_bus and I_coupler.
+    pub scalars: [u32; 5],
+    pub bus: Phasor,
+    pub coupler: Phasor,
 }
 
 pub const RAISE: u32 = 1 << bit::RAISE_BUTTON;
@@ -51,10 +66,12 @@ impl Stretch {
             left: dice.pick(&[1, 10, 100, 200, 300]) + dice.between(0, 100),
             contacts: steady_contacts(dice),
             level: level(dice),
+            scalar_level: Some(level(dice)).filter(|_| !dice.one_in(3)),
             temper: dice.pick(if is_continuous(settings) { &MOTOR_TEMPERS } else { &TEMPERS }),
             buttons: buttons(dice),
             others: others(dice, settings),
             noise: dice.pick(&[0, 0, 0, 0, 200, 60, 10]),
+            unneeded_noise: dice.pick(&[0, 0, 30, 3]),
             flips: dice.pick(&[0, 0, 0, 0, 300, 60, 10]),
         }
     }
@@ -105,8 +122,15 @@ fn buttons(dice: &mut Dice) -> Buttons {
     }
 }
 
+/// The scalars, and the currents as phasors.
+pub fn others(dice: &mut Dice, settings: &Settings) -> Others {
+    let scalars = scalars(dice, settings);
+    let [bus, coupler] = feeder::currents(dice, settings);
+    Others { scalars, bus, coupler }
+}
+
 /// 3U0, U2, I_high, I_bus and I_coupler, calm or near what trips.
-pub fn others(dice: &mut Dice, settings: &Settings) -> [u32; READINGS - 1] {
+fn scalars(dice: &mut Dice, settings: &Settings) -> [u32; 5] {
     let k = module_k(settings);
     let top = 1_000 * amp_limit(k);
     let bus = match dice.between(0, 5) {

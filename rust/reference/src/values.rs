@@ -3,7 +3,9 @@
 use std::io::{self, Write};
 
 use crate::input::{Input, READINGS};
-use crate::reading::{thousandths, Reading};
+use crate::line;
+use crate::phasor::Phasor;
+use crate::reading::{signed_thousandths, thousandths, Reading};
 use crate::record::Record;
 use crate::sheet::{check, slot, Settings, SLOTS};
 use crate::tap;
@@ -25,6 +27,7 @@ pub const BASE: Settings = [
     0, 100_000,
     0, 0, 0, 0, 0, 0, 0, 0, 0, 0,
     0,
+    4_000, 3_000,
 ];
 
 /// Good readings against 200, by their bits.
@@ -63,8 +66,86 @@ pub const AGAINST_40: [u32; 5] = [0x4220_0000, 0x4220_0001, 0x421F_FFFF, 0x421F_
 /// Held readings against 200, by their bits.
 pub const HELD_AGAINST_200: [u32; 2] = [0x4348_0000, 0x3D80_0000];
 
+/// Good parts of a pair against 200, by their bits.
+pub const PARTS_AGAINST_200: [u32; 21] = [
+    0xC2C8_3333,
+    0xC348_0000,
+    0xC348_0001,
+    0x4348_0000,
+    0x4348_0001,
+    0x8000_0000,
+    0x8000_0001,
+    0x0000_0001,
+    0xBA03_126E,
+    0xBA03_126F,
+    0x3A03_126F,
+    0xBD80_0000,
+    0x3D80_0000,
+    0xBD7F_FFFF,
+    0xC2C8_3168,
+    0x7F80_0000,
+    0xFF80_0000,
+    0x7FC0_0000,
+    0xFFC0_0000,
+    0xFF7F_FFFF,
+    0xBF80_0000,
+];
+
+/// Good parts of a pair against 40, by their bits.
+pub const PARTS_AGAINST_40: [u32; 6] = [0xC220_0000, 0xC220_0001, 0xC21F_FFFF, 0xC21F_FF97, 0xC21F_C000, 0x4220_0001];
+
+/// Numbers whose root is shown.
+pub const ROOTS: [u64; 22] = [
+    0,
+    1,
+    2,
+    3,
+    4,
+    8,
+    9,
+    10,
+    15,
+    16,
+    24,
+    25,
+    26,
+    9_999_999_999,
+    10_000_000_000,
+    10_000_000_001,
+    4_294_967_295,
+    4_294_967_296,
+    18_446_744_065_119_617_024,
+    18_446_744_065_119_617_025,
+    18_446_744_065_119_617_026,
+    18_446_744_073_709_551_615,
+];
+
+/// R and X, the parts of U_AB and those of the current.
+pub type Along = (u32, u32, i32, i32, i32, i32);
+
+/// Lines along which U is shown.
+pub const ALONG: [Along; 17] = [
+    (4_000, 0, 100_000, 0, 1_000, 0),
+    (0, 3_000, 100_000, 0, 1_000, 0),
+    (4_000, 3_000, 100_000, 0, 1_000, -500),
+    (4_000, 3_000, 60_000, 80_000, 0, 0),
+    (0, 0, 60_000, 80_000, 40_000, -40_000),
+    (0, 0, 99_999, 1, 0, 0),
+    (0, 0, -3, 4, 0, 0),
+    (0, 0, -3, 3, 0, 0),
+    (0, 0, 3, -5, 0, 0),
+    (400_000, 0, 100_000, 0, 40_000, 0),
+    (400_000, 400_000, -200_000, 200_000, 80_000, -80_000),
+    (80_000, 80_000, 200_000, 200_000, 400_000, 400_000),
+    (1, 0, 0, 0, 577, 0),
+    (1, 0, 0, 0, 578, 0),
+    (1, 0, 0, 0, -578, 0),
+    (0, 1, 0, 0, 0, 578),
+    (1, 1, 1, 1, 289, -289),
+];
+
 /// Numbers tried in every slot.
-const TRIED: [u32; 46] = [
+const TRIED: [u32; 49] = [
     0,
     1,
     2,
@@ -111,6 +192,9 @@ const TRIED: [u32; 46] = [
     1_900,
     4_900,
     79_900,
+    80_001,
+    400_000,
+    400_001,
 ];
 
 /// Checksums are taken modulo this.
@@ -120,6 +204,11 @@ const MODULUS: u64 = 1_000_003;
 pub fn print(out: &mut impl Write) -> io::Result<()> {
     print_readings(out)?;
     print_generated_readings(out)?;
+    print_parts(out)?;
+    print_generated_parts(out)?;
+    print_roots(out)?;
+    print_along(out)?;
+    print_generated_along(out)?;
     print_sheets(out)?;
     print_slots(out, "slot", &BASE)?;
     print_slots(out, "slot5", &base_5a())?;
@@ -166,12 +255,20 @@ fn print_reading(out: &mut impl Write, limit: u32, bits: u32, reading: Reading) 
     }
 }
 
+/// What the generated values start from.
+const FIRST_SEED: u64 = 12_345;
+
+/// One step of their generator.
+fn next_seed(seed: u64) -> u64 {
+    (seed * 1_103_515_245 + 12_345) % (1 << 31)
+}
+
 /// A checksum over 20,000 generated bit patterns.
 fn print_generated_readings(out: &mut impl Write) -> io::Result<()> {
-    let mut seed: u64 = 12_345;
+    let mut seed = FIRST_SEED;
     let mut sum: u64 = 7;
     for i in 0..20_000_u64 {
-        seed = (seed * 1_103_515_245 + 12_345) % (1 << 31);
+        seed = next_seed(seed);
         let bits = pattern(i, seed);
         let limit = if i % 2 == 0 { 200 } else { 40 };
         let folded = match answer(bits, limit) {
@@ -194,11 +291,92 @@ fn pattern(i: u64, seed: u64) -> u32 {
 
 /// The converted pattern; a NaN is missing without converting it.
 fn answer(bits: u32, limit: u32) -> Option<u32> {
-    let nan = bits % (1 << 31) > 0x7F80_0000;
-    match nan {
+    match is_nan(bits) {
         true => None,
         false => thousandths(f32::from_bits(bits), limit),
     }
+}
+
+fn is_nan(bits: u32) -> bool {
+    bits % (1 << 31) > 0x7F80_0000
+}
+
+fn print_parts(out: &mut impl Write) -> io::Result<()> {
+    for bits in PARTS_AGAINST_200 {
+        print_part(out, 200, bits)?;
+    }
+    for bits in PARTS_AGAINST_40 {
+        print_part(out, 40, bits)?;
+    }
+    Ok(())
+}
+
+fn print_part(out: &mut impl Write, limit: u32, bits: u32) -> io::Result<()> {
+    match Reading::Good(f32::from_bits(bits)).good_part(limit) {
+        Some(answer) => writeln!(out, "part {limit} {bits} {answer}"),
+        None => writeln!(out, "part {limit} {bits} missing"),
+    }
+}
+
+/// A checksum over the same patterns as parts, two in five of them negative.
+fn print_generated_parts(out: &mut impl Write) -> io::Result<()> {
+    let mut seed = FIRST_SEED;
+    let mut sum: u64 = 7;
+    for i in 0..20_000_u64 {
+        seed = next_seed(seed);
+        let sign = if i % 5 < 2 { 0x8000_0000 } else { 0 };
+        let limit = if i % 2 == 0 { 200 } else { 40 };
+        let folded = match part_answer(pattern(i, seed) | sign, limit) {
+            None => 1,
+            Some(part @ 0..) => 2 + u64::from(part.unsigned_abs()),
+            Some(part) => 500_000 + u64::from(part.unsigned_abs()),
+        };
+        sum = (sum * 31 + folded) % MODULUS;
+    }
+    writeln!(out, "parts 20000 {sum}")
+}
+
+/// The pattern converted as a part; a NaN is missing without converting it.
+fn part_answer(bits: u32, limit: u32) -> Option<i32> {
+    match is_nan(bits) {
+        true => None,
+        false => signed_thousandths(f32::from_bits(bits), limit),
+    }
+}
+
+fn print_roots(out: &mut impl Write) -> io::Result<()> {
+    for n in ROOTS {
+        writeln!(out, "root {n} {}", line::root(n.into()))?;
+    }
+    Ok(())
+}
+
+fn print_along(out: &mut impl Write) -> io::Result<()> {
+    for along in ALONG {
+        let (r, x, u_re, u_im, i_re, i_im) = along;
+        writeln!(out, "along {r} {x} {u_re} {u_im} {i_re} {i_im} {}", u_along(along))?;
+    }
+    Ok(())
+}
+
+fn u_along((r, x, u_re, u_im, i_re, i_im): Along) -> i64 {
+    line::remaining(r, x, Phasor { re: u_re, im: u_im }, Phasor { re: i_re, im: i_im })
+}
+
+/// A checksum over U along 20,000 generated lines.
+fn print_generated_along(out: &mut impl Write) -> io::Result<()> {
+    let mut seed = FIRST_SEED;
+    let mut sum: u64 = 7;
+    for _ in 0..20_000 {
+        let [r, x, u_re, u_im, i_re, i_im] = [(); 6].map(|()| {
+            seed = next_seed(seed);
+            (seed % 400_001) as u32
+        });
+        let part = |drawn: u32| drawn as i32 - 200_000;
+        let u = u_along((r, x, part(u_re), part(u_im), part(i_re), part(i_im)));
+        sum = (sum * 31 + 2 + u.unsigned_abs()) % MODULUS;
+    }
+    writeln!(out, "along 20000 {sum}")
 }
 
 fn print_sheets(out: &mut impl Write) -> io::Result<()> {
@@ -219,7 +397,7 @@ fn print_slots(out: &mut impl Write, word: &str, base: &Settings) -> io::Result<
             let mut list = *base;
             list[i] = tried;
             let (number, slot) = verdict(&list);
-            sum = (sum * 31 + u64::from(number) * 64 + u64::from(slot) + 1) % MODULUS;
+            sum = (sum * 31 + u64::from(number) * 1_000 + u64::from(slot) + 1) % MODULUS;
         }
         writeln!(out, "{word} {i} {sum}")?;
     }

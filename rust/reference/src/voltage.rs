@@ -1,9 +1,19 @@
 //! Rule 6: the regulated voltage U and its place against the band.
 
+use std::ops::{Add, Sub};
+
 use crate::input::{bit, Contacts, Input};
+use crate::line;
 use crate::reading::{amp_limit, VOLT_LIMIT};
 use crate::record::Side;
 use crate::sheet::{module_k, slot, Settings};
+
+/// The numbers of slot 3: how U is compensated.
+pub mod compensated {
+    pub const NOT: u32 = 0;
+    pub const BY_U_COMP: u32 = 1;
+    pub const ALONG_LINE: u32 = 2;
+}
 
 /// U, in mV and possibly below 0, and on which side of the band it is.
 #[derive(Clone, Copy, Debug, PartialEq, Eq)]
@@ -29,22 +39,40 @@ pub fn judge(settings: &Settings, input: &Input) -> Voltage {
     Voltage { u, side }
 }
 
-/// Good U_AB, less the compensation if slot 3 is 1.
+/// U by slot 3's way; nothing if a reading that this way needs is missing or Held.
 fn regulated(settings: &Settings, input: &Input) -> Option<i64> {
-    let bus = i64::from(input.u_ab.good(VOLT_LIMIT)?);
-    if settings[slot::COMPENSATION] == 0 {
-        return Some(bus);
+    match settings[slot::COMPENSATION] {
+        compensated::NOT => u_ab(input),
+        compensated::BY_U_COMP => less_u_comp(settings, input),
+        _ => along_line(settings, input),
     }
-    let current = compensating_current(settings, input)?;
-    let k = module_k(settings);
-    Some(bus - compensation(settings[slot::U_COMP], current, k))
 }
 
-/// The current of slot 4; only the readings it names are needed.
-fn compensating_current(settings: &Settings, input: &Input) -> Option<i64> {
-    let limit = amp_limit(module_k(settings));
-    let bus = input.i_bus.good(limit).map(i64::from);
-    let coupler = input.i_coupler.good(limit).map(i64::from);
+/// Good U_AB.
+fn u_ab(input: &Input) -> Option<i64> {
+    input.u_ab.good(VOLT_LIMIT).map(i64::from)
+}
+
+/// Good U_AB, less U_comp's share of the current.
+fn less_u_comp(settings: &Settings, input: &Input) -> Option<i64> {
+    let k = module_k(settings);
+    let amps = amp_limit(k);
+    let bus = input.i_bus.good(amps).map(i64::from);
+    let coupler = input.i_coupler.good(amps).map(i64::from);
+    let current = picked(settings, bus, coupler)?;
+    Some(u_ab(input)? - compensation(settings[slot::U_COMP], current, k))
+}
+
+/// Ticket 3's U, by the pairs alone: U_AB itself is not needed.
+fn along_line(settings: &Settings, input: &Input) -> Option<i64> {
+    let amps = amp_limit(module_k(settings));
+    let u_ab = input.u_ab_pair.good(VOLT_LIMIT)?;
+    let current = picked(settings, input.i_bus_pair.good(amps), input.i_coupler_pair.good(amps))?;
+    Some(line::remaining(settings[slot::R], settings[slot::X], u_ab, current))
+}
+
+/// The current of slot 4; only those that it names are needed.
+pub fn picked<I: Add<Output = I> + Sub<Output = I>>(settings: &Settings, bus: Option<I>, coupler: Option<I>) -> Option<I> {
     match settings[slot::COMPENSATION_CURRENT] {
         0 => bus,
         1 => coupler,

@@ -9,7 +9,7 @@ use reference::record::Record;
 use reference::recording::{sheet_from_bytes, sheet_to_bytes, READING_BYTES, SHEET_BYTES, TICK_BYTES};
 use reference::scene::Scene;
 use reference::sheet::SLOTS;
-use reference::values::{AGAINST_200, AGAINST_40, BASE, HELD_AGAINST_200};
+use reference::values::{AGAINST_200, AGAINST_40, ALONG, BASE, HELD_AGAINST_200, PARTS_AGAINST_200, PARTS_AGAINST_40, ROOTS};
 
 fn reference(words: &[&str]) -> Output {
     Command::new(env!("CARGO_BIN_EXE_reference")).args(words).output().unwrap()
@@ -49,13 +49,39 @@ fn values_have_all_their_lines() {
     assert!(output.status.success());
     let lines = text(&output.stdout);
     let readings = AGAINST_200.len() + AGAINST_40.len() + HELD_AGAINST_200.len();
-    assert_eq!(lines.lines().count(), readings + 1 + 4 + 3 * SLOTS + 256);
+    let parts = PARTS_AGAINST_200.len() + PARTS_AGAINST_40.len();
+    let ticket_3 = parts + 1 + ROOTS.len() + ALONG.len() + 1;
+    assert_eq!(lines.lines().count(), readings + 1 + ticket_3 + 4 + 3 * SLOTS + 256);
     assert!(lines.starts_with("reading 200 1120416563 100100\nreading 200 1128792064 200000\n"));
     assert!(lines.contains("\nreading 200 1128792064 200000\nreading 200 1031798784 63\nreadings 20000 "));
     assert!(lines.contains("\nsheet 0 0\nsheet 1 0\nsheet 1 0\nsheet 1 0\nslot 0 "));
     let words: Vec<&str> = lines.lines().map(|line| line.split(' ').next().unwrap()).collect();
     let blocks: Vec<(&str, usize)> = words.chunk_by(|a, b| a == b).map(|block| (block[0], block.len())).collect();
-    assert_eq!(blocks[3..], [("slot", SLOTS), ("slot5", SLOTS), ("continuous", SLOTS), ("bcd", 256)]);
+    let before = [("reading", readings), ("readings", 1), ("part", parts), ("parts", 1), ("root", ROOTS.len())];
+    assert_eq!(blocks[..5], before);
+    let after = [("along", ALONG.len() + 1), ("sheet", 4), ("slot", SLOTS), ("slot5", SLOTS), ("continuous", SLOTS)];
+    assert_eq!(blocks[5..], [&after[..], &[("bcd", 256)]].concat());
+}
+
+#[test]
+fn values_of_parts_roots_and_lines() {
+    let lines = text(&reference(&["values"]).stdout);
+    for expected in [
+        "\npart 200 3267900211 -100100\npart 200 3276275712 -200000\npart 200 3276275713 missing\n",
+        "\npart 200 2147483648 0\n",
+        "\npart 200 3179282432 -63\npart 200 1031798784 63\npart 200 3179282431 -62\n",
+        "\npart 40 1109393409 missing\nparts 20000 ",
+        "\nroot 18446744073709551615 4294967295\nalong 4000 0 100000 0 1000 0 93072\n",
+        "\nalong 0 0 -3 4 0 0 5\n",
+    ] {
+        assert!(lines.contains(expected), "{expected}");
+    }
+}
+
+#[test]
+fn the_layout() {
+    let output = reference(&["layout"]);
+    assert_eq!(text(&output.stdout), "SHEET_BYTES=264\nREADING_BYTES=5\nTICK_BYTES=66\n");
 }
 
 #[test]

@@ -1,11 +1,12 @@
 //! What must hold on every tick, over many chance ones.
 
 use reference::dice::Dice;
+use reference::floats::float_of;
 use reference::input::{bit, Input, READINGS};
 use reference::make_sheet;
 use reference::reading::Reading;
 use reference::record::{within_limits, Direction, Drive, Fault, Organ, Record, Side, Wait, ORGANS};
-use reference::scene::{float_of, Scene};
+use reference::scene::Scene;
 use reference::sheet::{is_continuous, slot, Settings};
 use reference::tick::{tick, Ticked, OUTPUTS};
 
@@ -154,6 +155,14 @@ fn any_reading(dice: &mut Dice) -> Reading {
     }
 }
 
+/// The reading, or one of the other sign.
+fn either_sign(dice: &mut Dice, reading: Reading) -> Reading {
+    match reading {
+        Reading::Good(x) if dice.one_in(2) => Reading::Good(-x),
+        same => same,
+    }
+}
+
 fn any_input(dice: &mut Dice) -> Input {
     // Few contacts that take the regulator out or block it.
     let blocking = 0b1000_1111_1111_1100;
@@ -161,7 +170,10 @@ fn any_input(dice: &mut Dice) -> Input {
         true => dice.bits(),
         false => dice.bits() & !blocking,
     };
-    let readings = [(); READINGS].map(|()| any_reading(dice));
+    let mut readings = [(); READINGS].map(|()| any_reading(dice));
+    for part in &mut readings[6..] {
+        *part = either_sign(dice, *part);
+    }
     Input::of(readings, contacts & !(1 << bit::OUT), dice.bits() as u8, dice.between(0, 45) as u8)
 }
 

@@ -1,9 +1,10 @@
 //! The simulated substation's readings: what they count as, and that the
 //! outputs show how a number between two thousandths is rounded.
 
+use reference::floats::{float_of, floats_beside, part_of, parts_beside};
 use reference::input::Input;
-use reference::reading::{amp_limit, thousandths, Reading, VOLT_LIMIT};
-use reference::scene::{float_of, floats_beside, Scene};
+use reference::reading::{amp_limit, signed_thousandths, thousandths, Reading, VOLT_LIMIT};
+use reference::scene::Scene;
 use reference::sheet::{module_k, Settings};
 use reference::tick::{tick, OUTPUTS};
 
@@ -13,10 +14,11 @@ fn thousandfold(x: f32) -> f64 {
     f64::from(x) * 1_000.0
 }
 
-/// How far a float lies above the whole number of thousandths it counts as.
+/// How far a float lies above the whole number of thousandths it counts as; one
+/// below 0, as a part does, by its magnitude.
 fn off(x: f32) -> Option<f64> {
-    let number = thousandths(x, VOLT_LIMIT)?;
-    Some(thousandfold(x) - f64::from(number))
+    let number = thousandths(x.abs(), VOLT_LIMIT)?;
+    Some(thousandfold(x.abs()) - f64::from(number))
 }
 
 #[test]
@@ -29,6 +31,19 @@ fn every_float_counts_as_its_number() {
         for x in floats_beside(number) {
             assert_eq!(thousandths(x, 200), Some(number), "{x}");
             assert!(off(x).unwrap().abs() > 0.4);
+        }
+    }
+}
+
+#[test]
+fn every_part_counts_as_its_number() {
+    for number in -200_000..=200_000 {
+        assert_eq!(signed_thousandths(part_of(number), 200), Some(number));
+    }
+    for number in -199_999..200_000 {
+        for x in parts_beside(number) {
+            assert_eq!(signed_thousandths(x, 200), Some(number), "{x}");
+            assert!(off(x).unwrap().abs() > 0.4 || x.to_bits() == 0x8000_0000);
         }
     }
 }
@@ -83,13 +98,16 @@ type Count = fn(f64) -> f64;
 /// The tick with each number in range replaced by the one it counts as.
 fn counted(input: &Input, settings: &Settings, count: Count) -> Input {
     let amps = amp_limit(module_k(settings));
-    let limits = [VOLT_LIMIT, VOLT_LIMIT, VOLT_LIMIT, amps, amps, amps];
-    let whole = |x| float_of(count(thousandfold(x)) as u32);
+    let volts = VOLT_LIMIT;
+    let limits = [volts, volts, volts, amps, amps, amps, volts, volts, amps, amps, amps, amps];
+    // A part by its magnitude, with its sign.
+    let whole = |x: f32| float_of(count(thousandfold(x.abs())) as u32).copysign(x);
     let mut readings = input.readings();
-    for (reading, limit) in readings.iter_mut().zip(limits) {
+    for (place, (reading, limit)) in readings.iter_mut().zip(limits).enumerate() {
+        let in_range = |x: f32| thousandths(if place < 6 { x } else { x.abs() }, limit).is_some();
         *reading = match *reading {
-            Reading::Good(x) if thousandths(x, limit).is_some() => Reading::Good(whole(x)),
-            Reading::Held(x) if thousandths(x, limit).is_some() => Reading::Held(whole(x)),
+            Reading::Good(x) if in_range(x) => Reading::Good(whole(x)),
+            Reading::Held(x) if in_range(x) => Reading::Held(whole(x)),
             missing => missing,
         };
     }
@@ -123,7 +141,7 @@ fn no_output_differs_by_the_nearest() {
 
 #[test]
 fn outputs_differ_if_readings_are_cut_off() {
-    let (by_field, any) = ticks_that_differ(400, f64::floor);
+    let (by_field, any) = ticks_that_differ(1_000, f64::floor);
     assert!(any > 1_000, "{any}");
     // The section, the trips, automatic and manual blocked, low and high.
     for field in [2, 6, 7, 8, 9, 10, 11, 12, 13, 14, 17, 18] {

@@ -19,10 +19,10 @@ fn changed(base: &Settings, slot: usize, number: u32) -> Settings {
 
 #[test]
 fn a_list_of_another_length() {
-    assert_eq!(SLOTS, 64);
+    assert_eq!(SLOTS, 66);
     for length in 0..=130 {
         let list: Vec<u32> = BASE.into_iter().cycle().take(length).collect();
-        assert_eq!(refused(&list), if length == 64 { (0, 0) } else { (1, 0) }, "{length} numbers");
+        assert_eq!(refused(&list), if length == 66 { (0, 0) } else { (1, 0) }, "{length} numbers");
     }
     assert_eq!(refused(&[]), (1, 0));
     assert_eq!(refused(&BASE[..SLOTS - 1]), (1, 0));
@@ -38,7 +38,8 @@ fn base_sheets_are_taken() {
 /// Low, high, step of every row of the paper, written out once more.
 fn paper_row(i: usize, k: u32) -> (u32, u32, u32) {
     match i {
-        0..=3 | 6..=18 => (0, 1, 1),
+        0..=2 | 6..=18 => (0, 1, 1),
+        3 => (0, 2, 1),
         4 => (0, 3, 1),
         5 => (0, 4, 1),
         19..=22 => (80_000, 140_000, 100),
@@ -57,6 +58,8 @@ fn paper_row(i: usize, k: u32) -> (u32, u32, u32) {
         52 => (1, 500_000, 1),
         53..=62 => (0, 40, 1),
         63 => (0, 1, 1),
+        64 | 65 if k == 5 => (0, 80_000, 1),
+        64 | 65 => (0, 400_000, 1),
         _ => unreachable!(),
     }
 }
@@ -94,6 +97,43 @@ fn currents_go_with_the_module() {
     assert_eq!(refused(&changed(&base_5a(), 25, 40_001)), (0, 0));
     assert_eq!(refused(&changed(&base_5a(), 25, 499)), (2, 25));
     assert_eq!(refused(&changed(&BASE, 1, 1)), (2, 27));
+}
+
+#[test]
+fn r_and_x_go_with_the_module() {
+    assert_eq!((slot::R, slot::X), (64, 65));
+    for slot in [64, 65] {
+        let refusal = (2, slot as u32);
+        for (number, by_1a, by_5a) in [
+            (0, (0, 0), (0, 0)),
+            (1, (0, 0), (0, 0)),
+            (80_000, (0, 0), (0, 0)),
+            (80_001, (0, 0), refusal),
+            (400_000, (0, 0), refusal),
+            (400_001, refusal, refusal),
+            (u32::MAX, refusal, refusal),
+        ] {
+            assert_eq!(refused(&changed(&BASE, slot, number)), by_1a, "slot {slot}: {number}");
+            assert_eq!(refused(&changed(&base_5a(), slot, number)), by_5a, "slot {slot}: {number}");
+        }
+    }
+    // R is named before X; with 5 A they are tested whatever slot 3 is.
+    let mut list = changed(&base_5a(), slot::R, 80_001);
+    list[slot::X] = 80_001;
+    assert_eq!(refused(&list), (2, 64));
+    for compensation in [0, 1, 2] {
+        list[slot::COMPENSATION] = compensation;
+        assert_eq!(refused(&list), (2, 64));
+    }
+}
+
+#[test]
+fn slot_3_takes_2_and_not_3() {
+    for base in [BASE, base_5a()] {
+        for (number, answer) in [(0, (0, 0)), (1, (0, 0)), (2, (0, 0)), (3, (2, 3)), (u32::MAX, (2, 3))] {
+            assert_eq!(refused(&changed(&base, slot::COMPENSATION, number)), answer);
+        }
+    }
 }
 
 #[test]
@@ -138,7 +178,8 @@ fn refusals_2_and_3_come_before_5() {
     assert_eq!(refused(&changed(&list, slot::N_L, 21)), (3, 48));
     let longer = [list.as_slice(), &[0]].concat();
     assert_eq!(refused(&longer), (1, 0));
-    assert_eq!(refused(&list[..63]), (1, 0));
+    assert_eq!(refused(&list[..65]), (1, 0));
+    assert_eq!(refused(&changed(&list, slot::X, 400_001)), (2, 65));
 }
 
 #[test]

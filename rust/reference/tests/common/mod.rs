@@ -2,10 +2,11 @@
 
 #![allow(dead_code)]
 
+use reference::floats::{float_of, part_of};
 use reference::input::{bit, Input, READINGS};
+use reference::phasor::Pair;
 use reference::reading::Reading;
 use reference::record::Record;
-use reference::scene::float_of;
 use reference::sheet::slot;
 use reference::tick::{tick, OUTPUTS};
 use reference::values::BASE;
@@ -20,6 +21,11 @@ pub fn good(thousandths: u32) -> Reading {
 /// A Held reading of just so many mV or mA.
 pub fn held(thousandths: u32) -> Reading {
     Reading::Held(float_of(thousandths))
+}
+
+/// A Good pair of just so many mV or mA.
+pub fn pair(re: i32, im: i32) -> Pair {
+    Pair { re: Reading::Good(part_of(re)), im: Reading::Good(part_of(im)) }
 }
 
 /// The fresh record of the base sheet with some slots changed.
