@@ -3,6 +3,7 @@ use Prim.Native.Nat.{ℕ}
 use mathlib.Core.List.{List, [], _∷_}
 use lib.Ieee.{binary32, ofBits}
 use Rattle.measure.specs.declared.Reading.the-variants.{Good, Invalid}
+use Rattle.phasor.specs.declared.Phasors.{Phasors}
 use Rattle.input.specs.declared.Input.{Input}
 
 -- a sheet that is taken, in service: U_supp is 100 V, dU 2 V, U_set5 110 V; no compensation, no tap, no wear count. Of the organs, U_AB
@@ -35,6 +36,11 @@ variedSheet = sheetOf 0 1 99000 23 25 21 24 22 3
 abbrev pub heldSheet : List ℕ
 heldSheet = sheetOf 1 1 99000 25 23 21 24 22 3
 
+-- no part of a pair is there
+abbrev pub noPhasors : Phasors
+noPhasors =
+    record { «u_ab» = record { re = Invalid; im = Invalid }; «i_bus» = record { re = Invalid; im = Invalid }; «i_coupler» = record { re = Invalid; im = Invalid } }
+
 -- a tick with a Good U_AB by its bits, all else Invalid; `contacts` as given
 abbrev pub brought : ℕ → ℕ → Input
 brought bits contacts =
@@ -45,6 +51,7 @@ brought bits contacts =
       «i_high» = Invalid;
       «i_bus» = Invalid;
       «i_coupler» = Invalid;
+      phasors = noPhasors;
       contacts = contacts;
       bcd = 0;
       sensor = 0;

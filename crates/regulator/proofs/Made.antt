@@ -33,7 +33,7 @@ module _ (r : Regulator) (i : Input) (c : Contacts) where
   pub sense-made : {o : Observed} {g : Organs} {a : Assessed}
       → o ≡ observedOf (r .settings) i (c .«breaker_closed») (r .«counted_tap»)
       → g ≡ protectedOf (r .settings) (r .organs) (o .readings) (o .section)
-      → a ≡ assessedOf (r .settings) (o .readings) c
+      → a ≡ assessedOf (r .settings) (o .readings) (i .phasors) c
       → _≡_ {A = Sensed} (record { observed = o; organs = g; assessed = a }) (sensedOf r i c)
   unfolding sensedOf observedIn protectedIn assessedIn
   sense-made p q u = rw (← p, q, u)

@@ -45,15 +45,15 @@ unfoldable pub protectedIn : Regulator → Observed → Organs
 protectedIn r o = protectedOf (r .settings) (r .organs) (o .readings) (o .section)
 
 -- rule 6: the voltage and its side
-unfoldable pub assessedIn : Regulator → Observed → Contacts → Assessed
-assessedIn r o c = assessedOf (r .settings) (o .readings) c
+unfoldable pub assessedIn : Regulator → Input → Observed → Contacts → Assessed
+assessedIn r i o c = assessedOf (r .settings) (o .readings) (i .phasors) c
 
 unfoldable pub sensedOf : Regulator → Input → Contacts → Sensed
 sensedOf r i c =
     record {
       observed = observedIn r i c;
       organs = protectedIn r (observedIn r i c);
-      assessed = assessedIn r (observedIn r i c) c;
+      assessed = assessedIn r i (observedIn r i c) c;
     }
 
 -- ---- rules 2 and 7 to 9: what is done

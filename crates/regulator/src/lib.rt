@@ -62,7 +62,8 @@ fn sense(r: Regulator, i: Input, c: Contacts) -> Sensed
     let observed = sensing::observing::observe(&s, i, c.breaker_closed, r.counted_tap);
     let readings = observed.readings;
     let organs = sensing::protecting::protect(&s, before, readings, observed.section);
-    let assessed = sensing::assessing::assess(&s, readings, c);
+    let phasors = i.phasors;
+    let assessed = sensing::assessing::assess(&s, readings, phasors, c);
     Sensed {
         observed: observed,
         organs: organs,

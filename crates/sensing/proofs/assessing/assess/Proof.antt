@@ -1,10 +1,10 @@
-use Rattle.sensing.specs.Assessing.{assessedOf, uOf}
+use Rattle.sensing.specs.Assessing.{assessedOf}
 use borrow.Author.Needs.{needs}
 use Rattle.sensing.proofs.assessing.assess.Statement.{statement}
 use Rattle.sensing.proofs.assessing.assess.Tie as tie
 
-voltage-requires : tie.Need-voltage-requires
-voltage-requires c κs = search needs
+u-of-requires : tie.Need-u-of-requires
+u-of-requires c κs = search needs
 
 supply-voltage-requires : tie.Need-supply-voltage-requires
 supply-voltage-requires c κs = search needs
@@ -16,14 +16,14 @@ far-above-requires : tie.Need-far-above-requires
 far-above-requires c κs = search needs
 
 returns : tie.Need-returns
-unfolding assessedOf uOf
+unfolding assessedOf
 returns c = cc
 
 pub assess-spec : {M : Type 1} → statement M
 assess-spec =
     tie.close
     (tie.spec
-    voltage-requires
+    u-of-requires
     supply-voltage-requires
     judge-level-requires
     far-above-requires

@@ -1,0 +1,86 @@
+-- Facts of U along the line, for every sheet, voltage and current.
+-- Assumes nothing.
+use mathlib.Core.Path.{_≡_, refl, sym, ap, _∙_}
+use mathlib.Core.List.{List}
+use Prim.Native.Nat.{ℕ, suc, _≤_}
+use native.Mathlib.Nat.{zero-mul, mul-zero, add-zero}
+use lib.IntN.{ℤ, pos, negsuc, negℤ, _-ℤ_, _*ℤ_}
+use native.Mathlib.Omega.{arith}
+use borrow.Author.Tests.{lt-ltb, eq-eqb}
+use Rattle.common.specs.Choice.{choose}
+use Rattle.common.proofs.Cases.{yes}
+use Rattle.slots.specs.Slots.{slot, compensationCurrent, resistance, reactance}
+use Rattle.phasor.specs.declared.Vector.{Vector}
+use Rattle.phasor.specs.declared.Vector.the-variants.{Missing, Is}
+use Rattle.root.specs.Roots.{rootOf, Root}
+use Rattle.root.proofs.Laws.{root-is, root-monotone}
+use Rattle.busbar.specs.declared.voltage.Value.{Value}
+use Rattle.busbar.specs.declared.voltage.Value.the-variants as value
+use Rattle.line.proofs.Made.{end-made}
+use Rattle.line.specs.Along.{pickedOf, scaledOf, dropRe, dropIm, remainsOf, squaresOf, magnitudeOf, farEndOf}
+
+-- ---- U is what its sentence says
+
+pub u-is-largest : (re im : ℤ) (u : ℕ) → magnitudeOf (Is re im) ≡ value.Is (pos u) → Root (squaresOf re im) u
+unfolding magnitudeOf
+u-is-largest re im u e = rw (sym (same e)) (root-is (squaresOf re im))
+  where
+    same : value.Is (pos (rootOf (squaresOf re im))) ≡ value.Is (pos u) → rootOf (squaresOf re im) ≡ u
+    same f = cc
+
+-- where more remains, U is not less
+pub u-monotone : (p q a b : ℤ) → squaresOf p q ≤ squaresOf a b → rootOf (squaresOf p q) ≤ rootOf (squaresOf a b)
+u-monotone p q a b h = root-monotone (squaresOf p q) (squaresOf a b) h
+
+-- ---- no impedance, or no current: U is the root of U_AB's own parts
+
+none-of : (z : ℤ) → pos 0 *ℤ z ≡ pos 0
+none-of (pos n) = ap pos (zero-mul n)
+none-of (negsuc n) = ap (λ (m : ℕ). negℤ (pos m)) (zero-mul (suc n))
+
+of-none : (n : ℕ) → pos n *ℤ pos 0 ≡ pos 0
+of-none n = ap pos (mul-zero n)
+
+less-none : (z : ℤ) → z -ℤ pos 0 ≡ z
+less-none (pos n) = ap pos (add-zero n)
+less-none (negsuc n) = rw (lt-ltb 0 (suc n) (omega arith)) (ap negsuc (omega arith))
+
+no-drop : scaledOf (pos 0 -ℤ pos 0) ≡ pos 0
+unfolding scaledOf
+no-drop = refl
+
+re-none : (r x : ℕ) → dropRe r x (pos 0) (pos 0) ≡ pos 0
+unfolding dropRe
+re-none r x = rw (of-none r, of-none x) no-drop
+
+im-none : (r x : ℕ) → dropIm r x (pos 0) (pos 0) ≡ pos 0
+unfolding dropIm
+im-none r x = rw (mul-zero r, mul-zero x) no-drop
+
+module _ (p q re im : ℤ) where
+  pub no-impedance : remainsOf 0 0 (Is p q) (Is re im) ≡ Is p q
+  unfolding remainsOf dropRe dropIm
+  no-impedance = rw (none-of re, none-of im, no-drop, less-none p, less-none q)
+
+  pub no-current : (r x : ℕ) → remainsOf r x (Is p q) (Is (pos 0) (pos 0)) ≡ Is p q
+  unfolding remainsOf
+  no-current r x = rw (re-none r x, im-none r x) (cc (less-none p, less-none q))
+
+  -- with R and X 0
+  pub own-parts : (s : List ℕ) → slot s resistance ≡ 0 → slot s reactance ≡ 0 → farEndOf s (Is p q) (Is re im) ≡ value.Is (pos (rootOf (squaresOf p q)))
+  unfolding magnitudeOf
+  own-parts s a b =
+      sym
+      (end-made (value.Is (pos (rootOf (squaresOf p q)))) s (Is p q) (Is re im) (Is p q) (omega (arith, a)) (omega (arith, b)) (rw (a, b) (sym no-impedance))
+      refl)
+
+-- ---- a current that slot 4 does not name is not needed
+
+module _ (s : List ℕ) (a b c : Vector) where
+  pub coupler-unneeded : slot s compensationCurrent ≡ 0 → pickedOf s a b ≡ pickedOf s a c
+  unfolding pickedOf
+  coupler-unneeded e = sym (yes _ _ _ _ (eq-eqb _ _ e) refl) ∙ yes _ _ _ _ (eq-eqb _ _ e) refl
+
+  pub bus-unneeded : slot s compensationCurrent ≡ 1 → pickedOf s a c ≡ pickedOf s b c
+  unfolding pickedOf choose
+  bus-unneeded e = rw e refl
