@@ -1,14 +1,22 @@
-// Worked values of the readings, of the setting sheet and of the tap. `stdout` has what the second program, `reference/`, prints of the
+// Worked values of the readings, of pairs, of roots and the line's drop, of the setting sheet and of the tap. `stdout` has what the second program, `reference/`, prints of the
 // same values, so a run that differs shows that one of the two programs is wrong.
+mod along;
 mod bcd;
+mod parts;
 mod print;
 mod readings;
+mod roots;
 mod sheets;
 mod sum;
 
 fn main() {
     readings::print_listed();
     readings::print_generated();
+    parts::print_listed();
+    parts::print_generated();
+    roots::print_listed();
+    along::print_listed();
+    along::print_generated();
     sheets::print_lengths();
     sheets::print_slots(b"slot ", sheets::BASE);
     sheets::print_slots(b"slot5 ", sheets::base_5a());

@@ -49,7 +49,7 @@ const CURRENTS: [u32; 5] = [
 ];
 
 // The pattern's float. A NaN is made by arithmetic, since `from_bits` is not defined at a NaN's pattern.
-fn float(bits: u32) -> f32 {
+pub(crate) fn float(bits: u32) -> f32 {
     let zero: f32 = 0.0;
     if bits % 0x8000_0000 > 0x7F80_0000 {
         return zero / zero;
@@ -94,8 +94,11 @@ pub(crate) fn print_listed() {
     print_held(Channel::Voltage, 0x3D80_0000);
 }
 
-// The next number of a row of numbers that look like chance.
-fn next(seed: u64) -> u64
+// Where a row of numbers that look like chance begins.
+pub const SEED: u64 = 12_345;
+
+// The next number of such a row.
+pub(crate) fn next(seed: u64) -> u64
     requires { ⌜ seed < 2147483648 ⌝ }
     ensures { λ r. ⌜ r < 2147483648 ⌝ }
 {
@@ -103,7 +106,7 @@ fn next(seed: u64) -> u64
 }
 
 // Any pattern on each third turn, and on the others a number from 2^-11 to below 2^19.
-fn pattern(i: u64, seed: u64) -> u32
+pub(crate) fn pattern(i: u64, seed: u64) -> u32
     requires { ⌜ seed < 2147483648 ⌝ }
 {
     if i % 3 == 0 {
@@ -113,7 +116,7 @@ fn pattern(i: u64, seed: u64) -> u32
 }
 
 // The limit is 200 on even turns, of a voltage and of a 5 A module's current, and 40 on the others.
-fn channel(i: u64) -> Channel {
+pub(crate) fn channel(i: u64) -> Channel {
     match i % 4 {
         0 => Channel::Voltage,
         2 => Channel::Current5A,
@@ -140,7 +143,7 @@ fn weight_at(i: u64, seed: u64) -> u64
 }
 
 fn generated() -> u64 {
-    let mut seed: u64 = 12_345;
+    let mut seed: u64 = SEED;
     let mut sum = sum::START;
     let mut i: u64 = 0;
     while i < 20_000 {

@@ -1,0 +1,76 @@
+-- Signed numbers by their magnitudes, as they are printed.
+-- Assumes nothing.
+use mathlib.Core.Path.{_≡_, refl, sym, ap, _∙_}
+use mathlib.Core.Bool.{true, false, true≢false}
+use Prim.Native.Nat.{ℕ, suc, _<_, _≤_, _^_}
+use native.Mathlib.Nat.{le-trans, le-of-lt, lt-of-le-of-lt}
+use native.Mathlib.Omega.{arith}
+use borrow.Author.Needs.{needs}
+use borrow.Author.Tests.{ltb-true, le-leb}
+use lib.Dec.{T, ltb, lit≤, lit<}
+use lib.IntN.{ℤ, pos, negsuc, natAbs, _-ℤ_}
+use lib.Signed.{ltZ, nonNeg, mag}
+use lib.Ieee.{binary32, inFloat}
+use mir.Syntax.{w64}
+use mir.Val.{Fits, SFits}
+use mir.Facts.{toZ-ofZ, fits-le, fits-lit}
+use Rattle.common.proofs.Signed.{Stands, exactly, literal, small, fits, read, back, sub}
+use Rattle.phasor.specs.declared.Vector.{Vector}
+use Rattle.phasor.specs.declared.Vector.the-variants.{Is}
+use Rattle.phasor.specs.Pairs.{Within}
+use Rattle.line.specs.Along.{mostPart}
+use Rattle.line.proofs.Parts.{within-re, read-most}
+use Rattle.line.proofs.Made.{pair-within}
+
+-- ---- a number that is not below 0, as it stands
+
+not-below : (z : ℤ) → ltZ z (pos 0) ≡ false → T (nonNeg z)
+not-below (pos n) e = tt
+not-below (negsuc n) e = absurd (true≢false e)
+
+word : (z : ℤ) → T (nonNeg z) → SFits w64 z → Fits w64 (natAbs z)
+word (pos n) t f = fits-le {n = 2 ^ 63} (le-of-lt (f .sfits)) (fits-lit tt)
+word (negsuc n) t f = absurd t
+
+module _ (z : ℤ) (f : SFits w64 z) (e : ltZ (read z) (pos 0) ≡ false) where
+  pub as-nonneg : T (nonNeg (read z))
+  as-nonneg = not-below (read z) e
+
+  pub as-word : Fits w64 (natAbs (read z))
+  as-word = rw (toZ-ofZ f) (word z (not-below z (rw (toZ-ofZ f) at e)) f)
+
+-- ---- one that is below 0, turned
+
+turned : (z : ℤ) → ltZ z (pos 0) ≡ true → T (nonNeg (pos 0 -ℤ z))
+turned (pos n) e = absurd (let h : n < 0 = ltb-true n 0 e in omega arith)
+turned (negsuc n) e = tt
+
+module _ (z : ℤ) (h : natAbs z ≤ mostPart) where
+  less : Stands (pos 0 -ℤ read z) (pos 0 -ℤ z) mostPart
+  less = sub (literal 0) (back (exactly z h) tt)
+
+  pub turned-fits : SFits w64 (pos 0 -ℤ read z)
+  turned-fits = fits less tt
+
+  pub turned-nonneg : ltZ (read z) (pos 0) ≡ true → T (nonNeg (read (pos 0 -ℤ read z)))
+  turned-nonneg e = rw (back less tt .is) (turned z (rw (back (exactly z h) tt .is) at e))
+
+  pub turned-word : Fits w64 (natAbs (read (pos 0 -ℤ read z)))
+  turned-word = fits-le {n = mostPart} (small (back less tt)) (fits-lit tt)
+
+  pub turned-few : natAbs (read (pos 0 -ℤ read z)) < 1099511627776
+  turned-few = lt-of-le-of-lt (small (back less tt)) (lit< tt)
+
+  pub as-few : natAbs (read z) < 1099511627776
+  as-few = lt-of-le-of-lt (small (back (exactly z h) tt)) (lit< tt)
+
+-- ---- parts, and floats of whole numbers
+
+pub part-most : (v : Vector) (re im : ℤ) → v ≡ Is re im → Within mostPart v → natAbs (read re) ≤ mostPart
+part-most v re im is h = read-most mostPart re (lit≤ tt) (within-re mostPart v re im is h)
+
+pub exact : (n : ℕ) → n < 16777216 → T (inFloat binary32 (pos n))
+unfolding inFloat
+exact n h = rw (le-leb n (2 ^ 24) (le-of-lt h)) tt
+
+pub ruleset magnitudes = (as-nonneg, as-word, turned-fits, turned-nonneg, turned-word, turned-few, as-few, part-most, exact, pair-within, needs)
