@@ -12,7 +12,7 @@ use slots::MODULE;
 use slots::REACTANCE;
 use slots::RESISTANCE;
 use slots::SLOTS;
-ghost use Prim.Native.Nat.{_<_, _≤_};
+ghost use Prim.Native.Nat.{_<_};
 
 // Where a part of 0 stands.
 const ZERO: u32 = 200_000;
@@ -290,10 +290,7 @@ struct Drawn {
     last: u64,
 }
 
-fn draw(seed: u64) -> Drawn
-    requires { ⌜ seed < 2147483648 ⌝ }
-    ensures { λ d. ⌜ d .last < 2147483648 ⌝ }
-{
+fn draw(seed: u64) -> Drawn {
     let a = readings::next(seed);
     let b = readings::next(a);
     let c = readings::next(b);

@@ -6,7 +6,7 @@ use measure::Channel;
 use measure::Reading;
 use phasor::Phasor;
 use phasor::Vector;
-ghost use Prim.Native.Nat.{_<_, _≤_, _^_};
+ghost use Prim.Native.Nat.{_<_, _≤_};
 ghost use lib.IntN.{natAbs};
 ghost use Rattle.phasor.specs.Pairs.{Within};
 ghost use Rattle.line.specs.Along.{mostPart};
@@ -131,9 +131,7 @@ fn weight(v: Vector) -> u64
 }
 
 // The generated reading's pattern, with a minus sign on two turns of five.
-fn pattern(i: u64, seed: u64) -> u32
-    requires { ⌜ seed < 2147483648 ⌝ }
-{
+fn pattern(i: u64, seed: u64) -> u32 {
     let bits = readings::pattern(i, seed);
     if i % 5 < 2 {
         return bits % 0x8000_0000 + 0x8000_0000;

@@ -98,19 +98,14 @@ pub(crate) fn print_listed() {
 pub const SEED: u64 = 12_345;
 
 // The next number of such a row.
-pub(crate) fn next(seed: u64) -> u64
-    requires { ⌜ seed < 2147483648 ⌝ }
-    ensures { λ r. ⌜ r < 2147483648 ⌝ }
-{
-    (seed * 1_103_515_245 + 12_345) % 0x8000_0000
+pub(crate) fn next(seed: u64) -> u64 {
+    (seed % 0x8000_0000 * 1_103_515_245 + 12_345) % 0x8000_0000
 }
 
 // Any pattern on each third turn, and on the others a number from 2^-11 to below 2^19.
-pub(crate) fn pattern(i: u64, seed: u64) -> u32
-    requires { ⌜ seed < 2147483648 ⌝ }
-{
+pub(crate) fn pattern(i: u64, seed: u64) -> u32 {
     if i % 3 == 0 {
-        return ((seed * 2 + i % 2) % 0x1_0000_0000) as u32;
+        return ((seed % 0x8000_0000 * 2 + i % 2) % 0x1_0000_0000) as u32;
     }
     (0x3A00_0000 + seed % 0x0F00_0000) as u32
 }
@@ -136,7 +131,6 @@ fn weight(m: Measured) -> u64
 }
 
 fn weight_at(i: u64, seed: u64) -> u64
-    requires { ⌜ seed < 2147483648 ⌝ }
     ensures { λ r. ⌜ r < 1099511627776 ⌝ }
 {
     weight(measure::measure(channel(i), Reading::Good(float(pattern(i, seed)))))
