@@ -3,6 +3,8 @@ use lib.Dec.{eqb}
 use Rattle.common.specs.Choice.{choose}
 use Rattle.measure.specs.declared.Reading.{Reading}
 use Rattle.measure.specs.declared.Reading.the-variants.{Good, Held, Invalid}
+use Rattle.phasor.specs.declared.Phasor.{Phasor}
+use Rattle.phasor.specs.declared.Phasors.{Phasors}
 use Rattle.input.specs.declared.Input.{Input}
 use Rattle.image.specs.declared.bringing.Sample.{Sample}
 use Rattle.image.specs.declared.bringing.Brought.{Brought}
@@ -10,6 +12,19 @@ use Rattle.image.specs.declared.bringing.Brought.{Brought}
 -- quality 0 is Good, 1 is Held, any other Invalid
 unfoldable pub readingOf : Sample → Reading
 readingOf s = choose (eqb (s .quality) 0) (Good (s .value)) (choose (eqb (s .quality) 1) (Held (s .value)) Invalid)
+
+-- 02, ticket 3: "a pair, real and imaginary part"
+unfoldable pub phasorOf : Sample → Sample → Phasor
+phasorOf re im = record { re = readingOf re; im = readingOf im }
+
+-- "Each tick also brings U_AB, I_bus and I_coupler as a pair"
+unfoldable pub phasorsOf : Brought → Phasors
+phasorsOf b =
+    record {
+      «u_ab» = phasorOf (b .«u_ab_re») (b .«u_ab_im»);
+      «i_bus» = phasorOf (b .«i_bus_re») (b .«i_bus_im»);
+      «i_coupler» = phasorOf (b .«i_coupler_re») (b .«i_coupler_im»);
+    }
 
 unfoldable pub inputOf : Brought → Input
 inputOf b =
@@ -20,6 +35,7 @@ inputOf b =
       «i_high» = readingOf (b .«i_high»);
       «i_bus» = readingOf (b .«i_bus»);
       «i_coupler» = readingOf (b .«i_coupler»);
+      phasors = phasorsOf b;
       contacts = b .contacts;
       bcd = b .bcd;
       sensor = b .sensor;

@@ -14,7 +14,7 @@ use Rattle.common.specs.Choice.{choose}
 use Rattle.common.proofs.Cases.{yes}
 use Rattle.input.specs.declared.Input.{Input}
 use Rattle.recording.specs.Numbers.{numberBytes, numberAt, floatAt}
-use Rattle.recording.specs.Recorded.{readings, readingBytes, contactsAt, bcdAt, sensorAt, tickBytes, readingAt, nthReading, inputAt, badFrom, badPlace, decodedOf}
+use Rattle.recording.specs.Recorded.{readings, readingBytes, contactsAt, bcdAt, sensorAt, tickBytes, readingAt, nthReading, phasorAt, phasorsAt, inputAt, badFrom, badPlace, decodedOf}
 use Rattle.recording.specs.declared.ticks.Decoded.{Decoded}
 use Rattle.recording.specs.declared.ticks.Decoded.the-variants.{Tick, BadQuality, CutShort}
 use Rattle.recording.proofs.Made.{cut-short}
@@ -40,10 +40,18 @@ module _ (s t : List ℕ) (a b : ℕ) (same : (k : ℕ) → k < tickBytes → ge
   same-reading i h =
       rw (same (readingBytes * i) (omega arith), add-assoc a (readingBytes * i) 1, add-assoc b (readingBytes * i) 1, same-number (readingBytes * i + 1) (omega arith))
 
+  same-phasor : (i : ℕ) → i + 1 < readings → phasorAt s a i ≡ phasorAt t b i
+  unfolding phasorAt
+  same-phasor i h = rw (same-reading i (omega arith), same-reading (i + 1) h)
+
+  same-phasors : phasorsAt s a ≡ phasorsAt t b
+  unfolding phasorsAt
+  same-phasors = rw (same-phasor 6 (omega arith), same-phasor 8 (omega arith), same-phasor 10 (omega arith))
+
   same-input : inputAt s a ≡ inputAt t b
   unfolding inputAt
   same-input =
-      rw (same-reading 0 (omega arith), same-reading 1 (omega arith), same-reading 2 (omega arith), same-reading 3 (omega arith), same-reading 4 (omega arith), same-reading 5 (omega arith), same-number contactsAt (omega arith), same bcdAt (omega arith), same sensorAt (omega arith))
+      rw (same-reading 0 (omega arith), same-reading 1 (omega arith), same-reading 2 (omega arith), same-reading 3 (omega arith), same-reading 4 (omega arith), same-reading 5 (omega arith), same-phasors, same-number contactsAt (omega arith), same bcdAt (omega arith), same sensorAt (omega arith))
 
   same-from : (n i : ℕ) → i + n ≤ readings → badFrom s a n i ≡ badFrom t b n i
   unfolding badFrom

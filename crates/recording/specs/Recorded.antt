@@ -7,14 +7,19 @@ use lib.Ieee.{Float}
 use Rattle.common.specs.Choice.{choose}
 use Rattle.measure.specs.declared.Reading.{Reading}
 use Rattle.measure.specs.declared.Reading.the-variants.{Good, Held, Invalid}
+use Rattle.phasor.specs.declared.Phasor.{Phasor}
+use Rattle.phasor.specs.declared.Phasors.{Phasors}
 use Rattle.input.specs.declared.Input.{Input}
 use Rattle.recording.specs.Numbers.{numberBytes, numberAt, floatAt}
 use Rattle.recording.specs.declared.ticks.Decoded.{Decoded}
 use Rattle.recording.specs.declared.ticks.Decoded.the-variants.{Tick, BadQuality, CutShort}
 
--- "six readings"
+-- "the twelve readings": the six of 01, and from the seventh on, by 02, ticket 3, two for each pair
 abbrev pub readings : ℕ
-readings = 6
+readings = 12
+
+abbrev pub pairedFrom : ℕ
+pairedFrom = 6
 
 -- bytes of a reading: "a quality byte and four float bytes"
 abbrev pub readingBytes : ℕ
@@ -46,8 +51,21 @@ readingAt s at = readingOf (getD s at 0) (floatAt s (at + 1))
 abbrev pub nthReading : List ℕ → ℕ → ℕ → Reading
 nthReading s at i = readingAt s (at + readingBytes * i)
 
--- "the six readings in the order of 01-scope.md (U_AB, 3U0, U2, I_high, I_bus, I_coupler); four contact bytes, least first; the BCD byte;
--- the sensor byte"
+-- 02, ticket 3: "a pair, real and imaginary part": the ith reading and the next
+unfoldable pub phasorAt : List ℕ → ℕ → ℕ → Phasor
+phasorAt s at i = record { re = nthReading s at i; im = nthReading s at (i + 1) }
+
+-- "Each tick also brings U_AB, I_bus and I_coupler as a pair"
+unfoldable pub phasorsAt : List ℕ → ℕ → Phasors
+phasorsAt s at =
+    record {
+      «u_ab» = phasorAt s at pairedFrom;
+      «i_bus» = phasorAt s at (pairedFrom + 2);
+      «i_coupler» = phasorAt s at (pairedFrom + 4);
+    }
+
+-- "the twelve readings in the order of their introduction" (U_AB, 3U0, U2, I_high, I_bus, I_coupler; the parts of U_AB, I_bus, I_coupler);
+-- "four contact bytes, least first; the BCD byte; the sensor byte"
 unfoldable pub inputAt : List ℕ → ℕ → Input
 inputAt s at =
     record {
@@ -57,6 +75,7 @@ inputAt s at =
       «i_high» = nthReading s at 3;
       «i_bus» = nthReading s at 4;
       «i_coupler» = nthReading s at 5;
+      phasors = phasorsAt s at;
       contacts = numberAt s (at + contactsAt);
       bcd = getD s (at + bcdAt) 0;
       sensor = getD s (at + sensorAt) 0;
@@ -70,7 +89,7 @@ badFrom s at (suc n) i = choose (ltb 2 (getD s (at + readingBytes * i) 0)) (read
 unfoldable pub badPlace : List ℕ → ℕ → ℕ
 badPlace s at = badFrom s at readings 0
 
--- "each 36 bytes"; "a quality byte above 2, or a last tick that is cut short"
+-- "each 66 bytes"; "a quality byte above 2, or a last tick that is cut short"
 unfoldable pub decodedOf : List ℕ → ℕ → Decoded
 decodedOf s at =
     choose (leb (at + tickBytes) (length s))

@@ -2,12 +2,17 @@
 ghost use mathlib.Core.Path.{_≡_};
 ghost use Prim.Native.Nat.{_+_, _≤_, _<_};
 ghost use lib.ListN.{length};
-ghost use Rattle.recording.specs.Recorded.{readings, readingBytes, contactsAt, tickBytes, readingOf, readingAt, nthReading, inputAt, badPlace, decodedOf};
+ghost use Rattle.recording.specs.Recorded.{readings, readingBytes, contactsAt, tickBytes, readingOf, readingAt, nthReading, phasorAt, phasorsAt, inputAt, badPlace, decodedOf};
 use crate::NUMBER;
 use input::Input;
 use measure::Reading;
+use phasor::Phasor;
+use phasor::Phasors;
 
-const READINGS: usize = 6;
+const READINGS: usize = 12;
+
+// The first reading of the pairs.
+const PAIRED: usize = 6;
 
 // Bytes of one reading: its quality and its float.
 const READING: usize = 1 + NUMBER;
@@ -58,6 +63,30 @@ fn nth_reading(bytes: &[u8], at: usize, i: usize) -> Reading
     reading_at(bytes, at + READING * i)
 }
 
+// The ith reading and the next as a pair.
+fn phasor_at(bytes: &[u8], at: usize, i: usize) -> Phasor
+    requires { ⌜ (at + tickBytes ≤ length (now bytes)) × (i + 1 < readings) ⌝ }
+    ensures { λ r. ⌜ r ≡ phasorAt (now (bytes .entry)) at i ⌝ }
+{
+    let re = nth_reading(bytes, at, i);
+    let im = nth_reading(bytes, at, i + 1);
+    Phasor { re: re, im: im }
+}
+
+fn phasors_at(bytes: &[u8], at: usize) -> Phasors
+    requires { ⌜ at + tickBytes ≤ length (now bytes) ⌝ }
+    ensures { λ r. ⌜ r ≡ phasorsAt (now (bytes .entry)) at ⌝ }
+{
+    let u_ab = phasor_at(bytes, at, PAIRED);
+    let i_bus = phasor_at(bytes, at, PAIRED + 2);
+    let i_coupler = phasor_at(bytes, at, PAIRED + 4);
+    Phasors {
+        u_ab: u_ab,
+        i_bus: i_bus,
+        i_coupler: i_coupler,
+    }
+}
+
 fn input_at(bytes: &[u8], at: usize) -> Input
     requires { ⌜ at + tickBytes ≤ length (now bytes) ⌝ }
     ensures { λ r. ⌜ r ≡ inputAt (now (bytes .entry)) at ⌝ }
@@ -68,6 +97,7 @@ fn input_at(bytes: &[u8], at: usize) -> Input
     let i_high = nth_reading(bytes, at, 3);
     let i_bus = nth_reading(bytes, at, 4);
     let i_coupler = nth_reading(bytes, at, 5);
+    let phasors = phasors_at(bytes, at);
     let contacts = crate::number_at(bytes, at + CONTACTS);
     let bcd = bytes[at + BCD];
     let sensor = bytes[at + SENSOR];
@@ -78,6 +108,7 @@ fn input_at(bytes: &[u8], at: usize) -> Input
         i_high: i_high,
         i_bus: i_bus,
         i_coupler: i_coupler,
+        phasors: phasors,
         contacts: contacts,
         bcd: bcd,
         sensor: sensor,

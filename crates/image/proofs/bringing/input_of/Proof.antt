@@ -22,6 +22,9 @@ reading-of-requires-5 c κs = search needs
 reading-of-requires-6 : tie.Need-reading-of-requires-6
 reading-of-requires-6 c κs = search needs
 
+phasors-of-requires : tie.Need-phasors-of-requires
+phasors-of-requires c κs = search needs
+
 returns : tie.Need-returns
 unfolding inputOf
 returns c = cc
@@ -36,4 +39,5 @@ input-of-spec =
     reading-of-requires-4
     reading-of-requires-5
     reading-of-requires-6
+    phasors-of-requires
     returns)

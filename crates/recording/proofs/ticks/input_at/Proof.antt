@@ -23,6 +23,9 @@ nth-reading-requires-5 c κs = search needs
 nth-reading-requires-6 : tie.Need-nth-reading-requires-6
 nth-reading-requires-6 c κs = search needs
 
+phasors-at-requires : tie.Need-phasors-at-requires
+phasors-at-requires c κs = search needs
+
 add-number-at : tie.Need-add-number-at
 add-number-at c = search needs
 
@@ -54,6 +57,7 @@ input-at-spec =
     nth-reading-requires-4
     nth-reading-requires-5
     nth-reading-requires-6
+    phasors-at-requires
     add-number-at
     number-at-requires
     add-bcd
