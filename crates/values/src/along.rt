@@ -12,7 +12,8 @@ use slots::MODULE;
 use slots::REACTANCE;
 use slots::RESISTANCE;
 use slots::SLOTS;
-ghost use Prim.Native.Nat.{_<_};
+ghost use Prim.Native.Nat.{_+_, _<_, _≤_};
+ghost use lib.ListN.{length};
 
 // Where a part of 0 stands.
 const ZERO: u32 = 200_000;
@@ -258,12 +259,10 @@ fn print_row(w: Row) {
     print_value(voltage(w));
 }
 
-// The row at a place of the list.
-fn row_at(k: usize) -> Row
-    requires { ⌜ k < 17 ⌝ }
+// The row whose numbers stand from `at` on.
+fn row_at(list: &[u32], at: usize) -> Row
+    requires { ⌜ at + 8 ≤ length (now list) ⌝ }
 {
-    let list = LISTED;
-    let at = WIDTH * k;
     Row {
         r: list[at],
         x: list[at + 1],
@@ -276,12 +275,19 @@ fn row_at(k: usize) -> Row
     }
 }
 
-pub(crate) fn print_listed() {
-    let mut k: usize = 0;
-    while k < ROWS {
-        print_row(row_at(k));
-        k += 1;
+fn print_rows(list: &[u32]) {
+    let mut at: usize = 0;
+    while at < list.len() {
+        if list.len() - at < WIDTH {
+            return;
+        }
+        print_row(row_at(list, at));
+        at += WIDTH;
     }
+}
+
+pub(crate) fn print_listed() {
+    print_rows(&LISTED);
 }
 
 // The row of six numbers in a row of numbers that look like chance; `last` is the last of them.
