@@ -25,10 +25,10 @@
 extern "C" {
 #endif
 
-#define AVR_SLOTS 64   /* numbers of a setting sheet */
-#define AVR_ORGANS 7   /* measuring organs */
-#define AVR_READINGS 6 /* readings of a tick */
-#define AVR_FIELDS 28  /* outputs of a tick */
+#define AVR_SLOTS 66    /* numbers of a setting sheet */
+#define AVR_ORGANS 7    /* measuring organs */
+#define AVR_READINGS 12 /* readings of a tick, each part of a pair being one */
+#define AVR_FIELDS 28   /* outputs of a tick */
 
 /*
  * The slots of a setting sheet: the manual's name, the meaning and unit; the
@@ -39,7 +39,7 @@ enum avr_slot {
     AVR_SLOT_IN_SERVICE = 0,            /* XB1: in service: 0 no, 1 yes; 0-1 */
     AVR_SLOT_MODULE = 1,                /* I_nom: rated current of the module: 0 1 A (k = 1), 1 5 A (k = 5); 0-1 */
     AVR_SLOT_SECTION_NEEDS_CURRENT = 2, /* XB3: the section needs load current above I_set3: 0 no, 1 yes; 0-1 */
-    AVR_SLOT_COMPENSATION = 3,          /* XB4: compensation: 0 none, 1 by U_comp; 0-1 */
+    AVR_SLOT_COMPENSATION = 3,          /* XB4: compensation: 0 none, 1 by U_comp, 2 along R and X; 0-2 */
     AVR_SLOT_COMPENSATION_CURRENT = 4,  /* XB5: its current: 0 bus, 1 coupler, 2 bus - coupler, 3 bus + coupler; 0-3 */
     AVR_SLOT_TAP_SOURCE = 5,            /* XB6: tap from: 0 nothing, 1 BCD, 2 sensor, 3 counted, 4 counted reversed; 0-4 */
     AVR_SLOT_ON_I_HIGH_OVER_I_SET1 = 6, /* XB7: organ on, I_high over I_set1: 0 no, 1 yes; 0-1 */
@@ -100,6 +100,8 @@ enum avr_slot {
     AVR_SLOT_N9 = 61,                   /* N9: sliding tap 9, 0 = empty; 0-40 */
     AVR_SLOT_N10 = 62,                  /* N10: sliding tap 10, 0 = empty; 0-40 */
     AVR_SLOT_CONTINUOUS = 63,           /* XB2: regulation: 0 impulse, by the switching contact, 1 continuous, without it; 0-1 */
+    AVR_SLOT_RESISTANCE = 64,           /* R_set: resistance of the line, mohm; 0-400000/k */
+    AVR_SLOT_REACTANCE = 65,            /* X_set: reactance of the line, mohm; 0-400000/k */
 
     /* The first slot of each run: the organs in the order of their outputs, U_supp 1 to 4, the sliding taps 1 to 10. */
     AVR_SLOT_ORGANS_ON = AVR_SLOT_ON_I_HIGH_OVER_I_SET1,
@@ -258,24 +260,38 @@ typedef struct {
 /*
  * A reading. The value may be any float; one that is not finite, below 0, or
  * above 200 V or 40k A counts as missing. Any other counts as the nearest
- * whole mV or mA, a half going up.
+ * whole mV or mA, a half going up. A part of a pair may be below 0: it counts
+ * as its magnitude does, with its sign, and is missing where that is.
  */
 typedef struct {
     uint32_t quality; /* enum avr_quality */
     float value;      /* V or A */
 } avr_sample;
 
-/* What a tick brings: AVR_READINGS readings first. */
+/*
+ * What a tick brings: AVR_READINGS readings first, the last six of them three
+ * pairs, real and imaginary part. The pairs are read only with compensation
+ * along R and X, and of the currents' only the parts of those that
+ * AVR_SLOT_COMPENSATION_CURRENT names; u_ab feeds the organs alone then. All
+ * are measured against one axis, U_AB turned so that a current in phase with
+ * it has a power factor of 1: the library turns nothing.
+ */
 typedef struct {
-    avr_sample u_ab;      /* V */
-    avr_sample u0;        /* 3U0, V */
-    avr_sample u2;        /* V */
-    avr_sample i_high;    /* A */
-    avr_sample i_bus;     /* A */
-    avr_sample i_coupler; /* A */
-    uint32_t contacts;    /* masks of enum avr_contact */
-    uint8_t bcd;          /* the tap's lines: bits 0 to 3 units, 4 to 6 tens, 7 ignored */
-    uint8_t sensor;       /* the tap as the sensor shows it */
+    avr_sample u_ab;         /* V */
+    avr_sample u0;           /* 3U0, V */
+    avr_sample u2;           /* V */
+    avr_sample i_high;       /* A */
+    avr_sample i_bus;        /* A */
+    avr_sample i_coupler;    /* A */
+    avr_sample u_ab_re;      /* V, -200 to 200 */
+    avr_sample u_ab_im;      /* V, -200 to 200 */
+    avr_sample i_bus_re;     /* A, -40k to 40k */
+    avr_sample i_bus_im;     /* A, -40k to 40k */
+    avr_sample i_coupler_re; /* A, -40k to 40k */
+    avr_sample i_coupler_im; /* A, -40k to 40k */
+    uint32_t contacts;       /* masks of enum avr_contact */
+    uint8_t bcd;             /* the tap's lines: bits 0 to 3 units, 4 to 6 tens, 7 ignored */
+    uint8_t sensor;          /* the tap as the sensor shows it */
 } avr_brought;
 
 typedef struct {

@@ -35,10 +35,15 @@ static void hold_canaries(const char *what, const lent *l) {
     }
 }
 
-/* The lowest numbers, but for what the ticks below need: U2's organ with a delay, and a tap that the sensor shows. */
+/*
+ * The lowest numbers, but for what the ticks below need: U2's organ with a delay, a tap that the sensor shows, and the coupler's
+ * current along a line that is all but a reactance.
+ */
 static void sheet(uint32_t *s) {
     memset(s, 0, AVR_SLOTS * sizeof *s);
     s[AVR_SLOT_IN_SERVICE] = 1;
+    s[AVR_SLOT_COMPENSATION] = 2;
+    s[AVR_SLOT_COMPENSATION_CURRENT] = 1;
     s[AVR_SLOT_TAP_SOURCE] = 2;
     s[AVR_SLOT_ON_U2_OVER_U_SET4] = 1;
     s[AVR_SLOT_VOLTAGE_ORGANS] = 1;
@@ -56,15 +61,22 @@ static void sheet(uint32_t *s) {
     s[AVR_SLOT_N_MAX] = 18;
     s[AVR_SLOT_N10] = 39;
     s[AVR_SLOT_CONTINUOUS] = 1;
+    s[AVR_SLOT_RESISTANCE] = 1;
+    s[AVR_SLOT_REACTANCE] = 10000;
 }
 
-/* High voltage, U2 over its limit, the raise button pressed. */
+/*
+ * High voltage, U2 over its limit, the raise button pressed. The voltage is 87 V, less the drop; it is below 73 V, and not high,
+ * where two parts of a pair, or R and X, are read from each other's places. The other readings are not there.
+ */
 static avr_brought brought(void) {
     avr_brought in;
     memset(&in, 0, sizeof in);
-    in.u_ab.value = 90.0f;
-    in.u0.quality = in.i_high.quality = in.i_bus.quality = in.i_coupler.quality = AVR_QUALITY_INVALID;
+    in.u_ab.quality = in.u0.quality = in.i_high.quality = in.i_bus.quality = in.i_coupler.quality = AVR_QUALITY_INVALID;
+    in.i_bus_re.quality = in.i_bus_im.quality = AVR_QUALITY_INVALID;
     in.u2.value = 6.0f;
+    in.u_ab_re.value = 70.0f;
+    in.i_coupler_im.value = 1.0f;
     in.contacts = AVR_CONTACT_BREAKER_CLOSED | AVR_CONTACT_AUTOMATIC | AVR_CONTACT_RAISE_BUTTON;
     in.bcd = 0x12;
     in.sensor = 13;

@@ -6,13 +6,13 @@
 use std::mem::{size_of, transmute};
 
 /// Numbers of a setting sheet.
-pub const SLOTS: usize = 64;
+pub const SLOTS: usize = 66;
 
 /// Measuring organs.
 pub const ORGANS: usize = 7;
 
-/// Readings of a tick.
-pub const READINGS: usize = 6;
+/// Readings of a tick, each part of a pair being one.
+pub const READINGS: usize = 12;
 
 /// Outputs of a tick.
 pub const FIELDS: usize = 28;
@@ -59,7 +59,8 @@ pub struct Image {
     pub lower_button: u32,
 }
 
-/// A reading: its quality, and a number in V or A, which counts as the nearest whole mV or mA, a half going up.
+/// A reading: its quality, and a number in V or A, which counts as the nearest whole mV or mA, a half going up; a part of a pair
+/// counts as its magnitude does, with its sign.
 #[repr(C)]
 #[derive(Clone, Copy, Debug, Default)]
 pub struct Sample {
@@ -74,7 +75,8 @@ impl PartialEq for Sample {
     }
 }
 
-/// What a tick brings. The readings are U_AB, 3U0, U2, I_high, I_bus and I_coupler.
+/// What a tick brings. The readings are U_AB, 3U0, U2, I_high, I_bus and I_coupler, and then real and imaginary part of U_AB, I_bus
+/// and I_coupler.
 #[repr(C)]
 #[derive(Clone, Copy, Debug, Default, PartialEq)]
 pub struct Brought {
