@@ -3,19 +3,42 @@
 use library::{Sample, GOOD, HELD, INVALID};
 
 use crate::decimal;
+use crate::phasor;
 use crate::value::TICK_MS;
 
 /// `98.2`, `98.2 held`, `invalid`; `bits 0x7fc00000` for a float that has no number.
 pub fn reading(text: &str) -> Result<Sample, String> {
-    if text == "invalid" {
-        return Ok(Sample { quality: INVALID, value: 0.0 });
+    let (number, quality) = graded(text);
+    match float(number) {
+        _ if quality == INVALID => Ok(Sample { quality, value: 0.0 }),
+        Some(value) => Ok(Sample { quality, value }),
+        None => Err(format!("`{text}` is no reading: 98.2, 98.2 held or invalid")),
     }
-    let (number, quality) = match text.strip_suffix("held") {
+}
+
+/// A magnitude and degrees, `0.8@-30`, `0.8@-30 held`, `invalid`, as the two parts.
+pub fn phasor(text: &str) -> Result<[Sample; 2], String> {
+    let (numbers, quality) = graded(text);
+    match size_and_angle(numbers) {
+        _ if quality == INVALID => Ok([Sample { quality, value: 0.0 }; 2]),
+        Some((size, degrees)) => Ok(phasor::parts(size, degrees).map(|value| Sample { quality, value })),
+        None => Err(format!("`{text}` is no phasor: a magnitude from 0 on and degrees, 0.8@-30 or 0.8@-30 held, or invalid")),
+    }
+}
+
+fn size_and_angle(text: &str) -> Option<(f64, f64)> {
+    let (size, degrees) = text.split_once('@')?;
+    let number = |text: &str| text.trim().parse::<f64>().ok().filter(|number| number.is_finite());
+    Some((number(size).filter(|size| *size >= 0.0)?, number(degrees)?))
+}
+
+/// A cell without the word of its quality, and that quality.
+fn graded(text: &str) -> (&str, u32) {
+    match text.strip_suffix("held") {
+        _ if text == "invalid" => ("", INVALID),
         Some(rest) => (rest.trim(), HELD),
         None => (text, GOOD),
-    };
-    let value = float(number).ok_or_else(|| format!("`{text}` is no reading: 98.2, 98.2 held or invalid"))?;
-    Ok(Sample { quality, value })
+    }
 }
 
 fn float(text: &str) -> Option<f32> {

@@ -1,14 +1,16 @@
 //! The columns of a scenario, by the names in its first row.
 
-use library::Brought;
+use library::{Brought, Sample};
 
 use crate::cells;
 use crate::drive::{Nature, TEMPERS};
-use crate::inputs::{with, CONTACTS, READINGS, SWITCHING};
+use crate::inputs::{with, CONTACTS, PAIRS, READINGS, SWITCHING};
 
 #[derive(Clone, Copy, Debug, PartialEq, Eq)]
 pub enum Column {
     Reading(usize),
+    /// Both parts of a pair.
+    Phasor(usize),
     Contact(u32),
     Bcd,
     Sensor,
@@ -44,6 +46,7 @@ pub struct Standing {
 
 pub fn find(name: &str) -> Option<Column> {
     let reading = READINGS.iter().position(|reading| reading.name == name).map(Column::Reading);
+    let phasor = || PAIRS.iter().position(|pair| pair.phasor == name).map(Column::Phasor);
     let contact = || CONTACTS.iter().position(|contact| contact.name == name).map(|bit| Column::Contact(bit as u32));
     let drive = || DRIVE.iter().find(|(known, _)| *known == name).map(|(_, setting)| Column::Drive(*setting));
     let tap = || match name {
@@ -51,12 +54,13 @@ pub fn find(name: &str) -> Option<Column> {
         "sensor" => Some(Column::Sensor),
         _ => None,
     };
-    reading.or_else(contact).or_else(tap).or_else(drive)
+    reading.or_else(phasor).or_else(contact).or_else(tap).or_else(drive)
 }
 
 pub fn name(column: Column) -> &'static str {
     match column {
         Column::Reading(at) => READINGS[at].name,
+        Column::Phasor(at) => PAIRS[at].phasor,
         Column::Contact(bit) => CONTACTS[bit as usize].name,
         Column::Bcd => "BCD",
         Column::Sensor => "sensor",
@@ -74,16 +78,39 @@ pub fn header(cells: &[&str]) -> Result<Vec<Column>, String> {
         }
         columns.push(column);
     }
+    check_pairs(&columns)?;
     check_drive(&columns)?;
     Ok(columns)
 }
 
 fn unknown(name: &str) -> String {
-    let known = (0..READINGS.len()).map(Column::Reading).chain((0..CONTACTS.len() as u32).map(Column::Contact));
+    let readings = (0..READINGS.len()).map(Column::Reading).chain((0..PAIRS.len()).map(Column::Phasor));
+    let known = readings.chain((0..CONTACTS.len() as u32).map(Column::Contact));
     match known.map(self::name).find(|known| known.eq_ignore_ascii_case(name)) {
         Some(near) => format!("no column is called `{name}`; {near} is one"),
         None => format!("no column is called `{name}`"),
     }
+}
+
+/// Whether a column has a part of a pair, or both.
+pub fn gives_pair(columns: &[Column], pair: usize) -> bool {
+    columns.contains(&Column::Phasor(pair)) || part_of(columns, pair).is_some()
+}
+
+/// The first column of one part.
+fn part_of(columns: &[Column], pair: usize) -> Option<Column> {
+    PAIRS[pair].parts.map(Column::Reading).into_iter().find(|part| columns.contains(part))
+}
+
+/// A pair comes by its parts or by its phasor.
+fn check_pairs(columns: &[Column]) -> Result<(), String> {
+    for (at, pair) in PAIRS.iter().enumerate().filter(|(at, _)| columns.contains(&Column::Phasor(*at))) {
+        if let Some(part) = part_of(columns, at) {
+            let (part, phasor) = (name(part), pair.phasor);
+            return Err(format!("`{part}` and `{phasor}` are both there: give {} by its parts or by its phasor", pair.name));
+        }
+    }
+    Ok(())
 }
 
 pub fn has_drive(columns: &[Column]) -> bool {
@@ -106,12 +133,24 @@ pub fn put(standing: &mut Standing, column: Column, text: &str) -> Result<(), St
     let brought = &mut standing.brought;
     match column {
         Column::Reading(at) => brought.readings[at] = cells::reading(text)?,
+        Column::Phasor(at) => put_pair(brought, at, cells::phasor(text)?),
         Column::Contact(bit) => brought.contacts = with(brought.contacts, bit, cells::contact(text)?),
         Column::Bcd => brought.bcd = cells::bcd(text)?,
         Column::Sensor => brought.sensor = cells::sensor(text)?,
         Column::Drive(setting) => put_drive(&mut standing.nature, setting, text)?,
     }
     Ok(())
+}
+
+/// The samples of a pair.
+pub fn pair(brought: &Brought, at: usize) -> [Sample; 2] {
+    PAIRS[at].parts.map(|part| brought.readings[part])
+}
+
+pub fn put_pair(brought: &mut Brought, at: usize, samples: [Sample; 2]) {
+    for (part, sample) in PAIRS[at].parts.into_iter().zip(samples) {
+        brought.readings[part] = sample;
+    }
 }
 
 fn put_drive(nature: &mut Nature, setting: Setting, text: &str) -> Result<(), String> {

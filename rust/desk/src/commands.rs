@@ -2,7 +2,10 @@
 
 use library::{FIELDS, SLOTS};
 
+use crate::columns;
 use crate::file::{Errors, File, Output};
+use crate::inputs::{Pair, PAIRS, READINGS};
+use crate::names::{COMPENSATION_CURRENT, TABLE};
 use crate::picture;
 use crate::play::{Player, Source};
 use crate::progress::Progress;
@@ -13,6 +16,7 @@ use crate::sheet::{self, Sheet};
 use crate::show;
 use crate::table;
 use crate::unit::{self, Unit};
+use crate::value;
 use crate::words::Words;
 
 /// What a command prints: on standard output, and as notes on standard error.
@@ -41,12 +45,16 @@ pub fn sheet_show(words: &Words) -> Result<Said, Errors> {
 pub fn scenario_write(words: &Words) -> Result<Said, Errors> {
     let name = &words.plain[0];
     let target = words.needed("output");
-    let scenario = scenario::read(&File::read(name)?)?;
+    let file = File::read(name)?;
+    let scenario = scenario::read(&file)?;
     let mut inputs = vec![name.as_str()];
+    let mut notes = Vec::new();
     let bytes = match words.option("sheet") {
-        Some(sheet) => {
-            inputs.push(sheet);
-            recorded(&sheet::read(&File::read(sheet)?)?, &scenario)?
+        Some(sheet_name) => {
+            inputs.push(sheet_name);
+            let sheet = sheet::read(&File::read(sheet_name)?)?;
+            notes = without_pairs(&file, &scenario, &sheet);
+            recorded(&sheet, &scenario)?
         }
         None if scenario.has_drive() => {
             return Err(vec![format!("{name}: its simulated drive answers a unit: give the unit's sheet with --sheet")])
@@ -54,7 +62,23 @@ pub fn scenario_write(words: &Words) -> Result<Said, Errors> {
         None => unanswered(&scenario),
     };
     write(&inputs, vec![(target, bytes)])?;
-    Ok(Said { out: format!("{target}: written, {} ticks\n", scenario.ticks), notes: Vec::new() })
+    Ok(Said { out: format!("{target}: written, {} ticks\n", scenario.ticks), notes })
+}
+
+/// A remark for each pair that the sheet needs and no column gives.
+fn without_pairs(file: &File, scenario: &Scenario, sheet: &Sheet) -> Vec<String> {
+    let needed = sheet::needed_pairs(&sheet.list).iter().filter(|pair| !columns::gives_pair(&scenario.columns, **pair));
+    let current = value::text(&TABLE[COMPENSATION_CURRENT], sheet.list[COMPENSATION_CURRENT]);
+    let remark = |pair: &usize| {
+        let Pair { name, phasor, parts: [re, im] } = &PAIRS[*pair];
+        let (re, im) = (READINGS[*re].name, READINGS[*im].name);
+        let words = format!(
+            "XB4 = RX with XB5 = {current} goes by {name} as a pair, which no column gives, so that it is 0: \
+             add {phasor}, or {re} and {im}"
+        );
+        format!("avr: {}", file.says(&words))
+    };
+    needed.map(remark).collect()
 }
 
 /// The recording of a scenario that answers a unit.
@@ -85,13 +109,13 @@ pub fn run(words: &Words) -> Result<Said, Errors> {
     let (name, is_recording) = source_name(words);
     let sheet = sheet::read(&File::read(sheet_name)?)?;
     let file = File::read(name)?;
+    let mut said = Said::default();
     let history = match is_recording {
         true => replayed(&sheet, &file)?,
-        false => played(&sheet, &file)?,
+        false => played(&sheet, &file, &mut said.notes)?,
     };
     let title = words.option("title").unwrap_or_else(|| last_part(name));
     let table = table::table(&history, &sheet.list, !is_recording);
-    let mut said = Said::default();
     let mut targets = Vec::new();
     match words.option("table") {
         Some(target) => targets.push((target, table.into_bytes())),
@@ -117,8 +141,9 @@ fn last_part(name: &str) -> &str {
     name.rsplit('/').next().unwrap_or(name)
 }
 
-fn played(sheet: &Sheet, file: &File) -> Result<History, Errors> {
+fn played(sheet: &Sheet, file: &File, notes: &mut Vec<String>) -> Result<History, Errors> {
     let scenario = scenario::read(file)?;
+    notes.extend(without_pairs(file, &scenario, sheet));
     let source = Source::Scenario(Player::with_drive(&scenario, &sheet.list));
     run::run(started(sheet)?, source, &mut Progress::usual(), |_| ())
 }

@@ -32,12 +32,14 @@ refusal's number and slot.
 With -o, --output: writes the binary SHEET, a number of 32 bits for each setting, least byte first.
 
 FILE is text: `name = value` a line, `#` begins a comment. The names are those of the manual's table of settings; one that is
-left out has its default. Values are in V, A and s, or words:
+left out has its default. Values are in V, A, ohm and s, or words:
 
     XB1 = on            # in service
     XB2 = continuous    # for a drive without a switching contact; impulse is for one with it
     I_nom = 5 A         # the module
     U_supp1 = 100.5 V   # or 100.5
+    XB4 = RX            # off, U_comp, or RX: along R_set and X_set
+    R_set = 4.5 ohm     # or 4.5, 4500 mohm, 4.5 Ω; up to 80 ohm with I_nom = 5 A, up to 400 ohm with 1 A
     T1 = 120 s          # or 120, 120000 ms, 24000 ticks
     XB6 = sensor        # off, BCD, sensor; with XB2 = impulse also counted, counted-reversed
     N1 = empty          # or a sliding tap
@@ -76,6 +78,9 @@ comment line. A column that is not there is 0.
 
   readings        U_AB 3U0 U2 (V), I_high I_bus I_coupler (A): `98.2`, `98.2 held`, `invalid`. The unit counts the nearest
                   mV or mA, a half going up; what is above 200 V or 40 times I_nom is missing to it.
+  pairs           U_AB_re U_AB_im (V), I_bus_re I_bus_im I_coupler_re I_coupler_im (A): real and imaginary part, for XB4 = RX;
+                  as readings, and also below 0: `-0.4`. In place of two parts U_AB_phasor, I_bus_phasor or I_coupler_phasor,
+                  magnitude and degrees: `0.8@-30`, `0.8@-30 held`, `invalid`. A current at -30 lags a U_AB at 0 by 30.
   contacts        breaker switching supply_off oil_cold oil_low oil_high end_up end_down ext_overcurrent ext_block
                   ext_raise_block ext_lower_block reset out automatic local U_supp2 U_supp3 U_supp4 raise lower:
                   1 or 0, on or off, closed or open
@@ -86,7 +91,7 @@ comment line. A column that is not there is 0.
   drive_start     seconds from a command to the contact (0.5)
   drive_run       seconds the contact stays closed, after which the tap is there (3)
   drive_tap       the tap at the start (20)
-  drive_step      volts that one tap adds to U_AB, which is the voltage at drive_tap (1.5)
+  drive_step      volts that one tap adds to U_AB, which is the voltage at drive_tap (1.5); to the pair's magnitude, too
   drive_sliding   taps from which the drive goes on by itself, `9 10`, or none (none)
 
 With XB2 = continuous in the sheet the drive has no switching contact, which stays open. It moves while its command is on: it
@@ -104,7 +109,8 @@ The drive's supply goes off 0.1 s after the unit's supply trip, which ends a mov
 pub const SCENARIO_SHOW: &str = "\
 usage: avr scenario show RECORDING
 
-Prints a binary RECORDING as a CSV scenario, a row where something changes. The number of an Invalid reading is not kept.
+Prints a binary RECORDING as a CSV scenario, a row where something changes; pairs by their parts, where they are other than 0.
+The number of an Invalid reading is not kept.
 ";
 
 pub const RUN: &str = "\
@@ -117,5 +123,7 @@ Runs the unit with the sheet (text or SHEET) over a scenario (CSV) or a RECORDIN
   --title TEXT    the picture's title; else the name of the scenario's file
 
 Tick n is told at n times 0.005 s. What a row brings at 10 s is seen first on the tick after, at 10.005 s; a delay of 20 s that
-begins there ends at 30 s. Readings of a recording are not told in the table.
+begins there ends at 30 s. Readings of a recording are not told in the table. The picture has the pairs by magnitude, |U_AB|, and
+by the degrees that a current is ahead of U_AB. A remark on standard error tells where XB4 = RX needs a pair that the scenario
+does not give.
 ";

@@ -17,6 +17,12 @@ pub const READINGS: [Reading; COUNT] = [
     reading("I_high", "A"),
     reading("I_bus", "A"),
     reading("I_coupler", "A"),
+    reading("U_AB_re", "V"),
+    reading("U_AB_im", "V"),
+    reading("I_bus_re", "A"),
+    reading("I_bus_im", "A"),
+    reading("I_coupler_re", "A"),
+    reading("I_coupler_im", "A"),
 ];
 
 const fn reading(name: &'static str, unit: &'static str) -> Reading {
@@ -33,6 +39,30 @@ pub const fn reading_at(name: &str) -> usize {
 }
 
 pub const U_AB: usize = reading_at("U_AB");
+
+/// How many readings come before the parts of pairs.
+pub const SCALARS: usize = reading_at("U_AB_re");
+
+/// What a tick also brings as real and imaginary part: its name, the column of its phasor, and the places of the two.
+pub struct Pair {
+    pub name: &'static str,
+    pub phasor: &'static str,
+    pub parts: [usize; 2],
+}
+
+pub const PAIRS: [Pair; 3] = [
+    pair("U_AB", "U_AB_phasor", ["U_AB_re", "U_AB_im"]),
+    pair("I_bus", "I_bus_phasor", ["I_bus_re", "I_bus_im"]),
+    pair("I_coupler", "I_coupler_phasor", ["I_coupler_re", "I_coupler_im"]),
+];
+
+pub const U_AB_PAIR: usize = 0;
+pub const I_BUS_PAIR: usize = 1;
+pub const I_COUPLER_PAIR: usize = 2;
+
+const fn pair(name: &'static str, phasor: &'static str, parts: [&str; 2]) -> Pair {
+    Pair { name, phasor, parts: [reading_at(parts[0]), reading_at(parts[1])] }
+}
 
 /// A contact or key: its column, and what a table says when it is on and off.
 pub struct Contact {

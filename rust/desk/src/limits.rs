@@ -12,7 +12,7 @@ pub struct Limit {
     watch: Option<usize>,
 }
 
-pub const LIMITS: [Limit; ORGANS + 1] = [
+const LIMITS: [Limit; ORGANS + 1] = [
     Limit { reading: reading("U_AB"), slot: at("U_set5"), watch: None },
     organ("I_high", "I_set1", "XB7"),
     organ("I_bus", "I_set2", "XB8"),
@@ -27,8 +27,8 @@ const fn organ(of: &str, limit: &str, watch: &str) -> Limit {
     Limit { reading: reading(of), slot: at(limit), watch: Some(at(watch)) }
 }
 
-impl Limit {
-    pub fn is_watched(&self, list: &[u32]) -> bool {
-        self.watch.is_none_or(|slot| list[slot] == 1)
-    }
+/// The limits of some readings that a unit with this sheet watches.
+pub fn watched<'a>(readings: &'a [usize], list: &'a [u32]) -> impl Iterator<Item = &'static Limit> + 'a {
+    let is_watched = |limit: &Limit| limit.watch.is_none_or(|slot| list[slot] == 1);
+    LIMITS.iter().filter(move |limit| readings.contains(&limit.reading) && is_watched(limit))
 }

@@ -7,6 +7,7 @@ use crate::same::same;
 
 pub const MODULE: usize = at("I_nom");
 pub const COMPENSATION: usize = at("XB4");
+pub const COMPENSATION_CURRENT: usize = at("XB5");
 pub const TAP_SOURCE: usize = at("XB6");
 pub const U_SUPP: usize = at("U_supp1");
 pub const D_U: usize = at("dU_set");
@@ -33,6 +34,8 @@ pub enum Kind {
     Volts,
     /// A; the slot counts mA.
     Amps,
+    /// Ω; the slot counts mΩ.
+    Ohms,
     /// Seconds; the slot counts ticks.
     Seconds,
     /// A plain number.
@@ -41,7 +44,18 @@ pub enum Kind {
     TapOrEmpty,
 }
 
-/// A slot. `per_module`: low, high and default are for a 1 A module, and five times as much for a 5 A one.
+/// How a slot's numbers for a 5 A module come from those for a 1 A one.
+#[derive(Clone, Copy, Debug, PartialEq)]
+pub enum Module {
+    /// They are the same.
+    Same,
+    /// Five times as much.
+    Times,
+    /// A fifth.
+    Over,
+}
+
+/// A slot. Low, high and default are for a 1 A module.
 #[derive(Clone, Copy, Debug)]
 pub struct Slot {
     pub name: &'static str,
@@ -51,7 +65,7 @@ pub struct Slot {
     pub high: u32,
     pub step: u32,
     pub default: u32,
-    pub per_module: bool,
+    pub module: Module,
 }
 
 const ON_OFF: &[&str] = &["off", "on"];
@@ -63,7 +77,7 @@ pub const TABLE: [Slot; SLOTS] = [
     words("XB1", "the regulator is in service", ON_OFF),
     words("I_nom", "rated current of the protection module (P4: 1 A, P3: 5 A)", &["1 A", "5 A"]),
     words("XB3", "section chosen by least load current, I_set3", ON_OFF),
-    words("XB4", "compensation of the voltage", &["off", "U_comp"]),
+    words("XB4", "compensation of the voltage: by U_comp, or along R_set and X_set", &["off", "U_comp", "RX"]),
     words("XB5", "current of the compensation", CURRENTS),
     words("XB6", "where the tap is read", TAP_SOURCES),
     words("XB7", "watch overload of the tap changer, I_high over I_set1", ON_OFF),
@@ -124,13 +138,13 @@ pub const TABLE: [Slot; SLOTS] = [
     sliding("N9", "sliding tap 9"),
     sliding("N10", "sliding tap 10"),
     words("XB2", "regulation: by the drive's switching contact, or without one", &["impulse", "continuous"]),
+    ohms("R_set", "resistance of the line", 0, 400_000, 0),
+    ohms("X_set", "reactance of the line", 0, 400_000, 0),
 ];
 
 /// Names that the manual's table has and this unit has not, and other spellings.
-pub const ABSENT: [(&str, &str); 6] = [
+pub const ABSENT: [(&str, &str); 4] = [
     ("XB19", "this unit takes 3U0 as it is brought"),
-    ("R_set", "this unit does not compensate by R and X"),
-    ("X_set", "this unit does not compensate by R and X"),
     ("Inom_bus1", "this unit has no use for it"),
     ("dU", "write dU_set"),
     ("U_set9", "write U_set5"),
@@ -138,7 +152,7 @@ pub const ABSENT: [(&str, &str); 6] = [
 
 const fn slot(name: &'static str, meaning: &'static str, kind: Kind, range: (u32, u32, u32), default: u32) -> Slot {
     let (low, high, step) = range;
-    Slot { name, meaning, kind, low, high, step, default, per_module: false }
+    Slot { name, meaning, kind, low, high, step, default, module: Module::Same }
 }
 
 const fn words(name: &'static str, meaning: &'static str, words: &'static [&'static str]) -> Slot {
@@ -150,9 +164,11 @@ const fn volts(name: &'static str, meaning: &'static str, low: u32, high: u32, d
 }
 
 const fn amps(name: &'static str, meaning: &'static str, low: u32, high: u32, default: u32) -> Slot {
-    let mut amps = slot(name, meaning, Kind::Amps, (low, high, 1), default);
-    amps.per_module = true;
-    amps
+    Slot { module: Module::Times, ..slot(name, meaning, Kind::Amps, (low, high, 1), default) }
+}
+
+const fn ohms(name: &'static str, meaning: &'static str, low: u32, high: u32, default: u32) -> Slot {
+    Slot { module: Module::Over, ..slot(name, meaning, Kind::Ohms, (low, high, 1), default) }
 }
 
 const fn seconds(name: &'static str, meaning: &'static str, low: u32, high: u32, default: u32) -> Slot {
@@ -170,20 +186,30 @@ const fn sliding(name: &'static str, meaning: &'static str) -> Slot {
 impl Slot {
     /// Low and high for the module of a sheet, whose slot 1 is `module`.
     pub fn bounds(&self, module: u32) -> (u32, u32) {
-        let k = self.factor(module);
-        (self.low * k, self.high * k)
+        (self.for_module(self.low, module), self.for_module(self.high, module))
     }
 
     /// The default for that module.
     pub fn default_for(&self, module: u32) -> u32 {
-        self.default * self.factor(module)
+        self.for_module(self.default, module)
     }
 
-    fn factor(&self, module: u32) -> u32 {
-        match self.per_module && module == 1 {
-            true => 5,
-            false => 1,
+    /// What a number for a 1 A module is for that one.
+    fn for_module(&self, number: u32, module: u32) -> u32 {
+        let k = rated_amps(module);
+        match self.module {
+            Module::Same => number,
+            Module::Times => number * k,
+            Module::Over => number / k,
         }
+    }
+}
+
+/// The rated current of a sheet's module; a wrong number counts as the default, 1 A.
+pub fn rated_amps(module: u32) -> u32 {
+    match module {
+        1 => 5,
+        _ => 1,
     }
 }
 

@@ -1,42 +1,54 @@
 //! Panels: readings over time, with an axis on the left and names on the right.
 
+use std::borrow::Cow;
+
 use library::{Sample, GOOD, INVALID};
 
-use crate::run::Signal;
 use crate::scale::{mark_text, TimeScale, ValueScale};
 use crate::svg::{short, Anchor, Area, Pen, Style, Svg, FAINT, GREY, INK};
 
-/// A reading that is drawn.
+/// What is drawn: a reading, or what comes of some. A number below the least is left out.
 pub struct Series<'a> {
     pub label: String,
     pub colour: &'static str,
     pub dashes: &'static str,
-    pub signal: &'a Signal<Sample>,
+    pub least: f64,
+    pub signal: Cow<'a, [(u32, Sample)]>,
 }
 
+impl Series<'_> {
+    /// The number of a sample that is not Invalid, and neither wild nor below the least.
+    pub fn number(&self, sample: &Sample) -> Option<f64> {
+        let value = f64::from(sample.value);
+        (sample.quality != INVALID && (self.least..=1000.0).contains(&value)).then_some(value)
+    }
+
+    /// The numbers, in their order.
+    pub fn numbers(&self) -> impl DoubleEndedIterator<Item = f64> + '_ {
+        self.signal.iter().filter_map(|(_, sample)| self.number(sample))
+    }
+}
+
+/// The unit of an angle.
+pub const DEGREES: &str = "°";
+
 /// The least distance of two names on the right.
-const LABEL_ROW: f64 = 15.0;
+pub const LABEL_ROW: f64 = 15.0;
 
 /// The least and the greatest number of some series, of those that a unit could read.
 pub fn extent(series: &[Series]) -> Option<(f64, f64)> {
-    let samples = series.iter().flat_map(|series| series.signal.iter());
-    let known = samples.filter_map(|(_, sample)| number(sample));
-    known.fold(None, |extent, value| match extent {
+    series.iter().flat_map(Series::numbers).fold(None, |extent, value| match extent {
         None => Some((value, value)),
         Some((low, high)) => Some((value.min(low), value.max(high))),
     })
 }
 
-/// The number of a reading that is not Invalid, and neither wild nor below 0.
-pub fn number(sample: &Sample) -> Option<f64> {
-    let value = f64::from(sample.value);
-    (sample.quality != INVALID && (0.0..=1000.0).contains(&value)).then_some(value)
-}
-
-/// The frame and the axis.
-pub fn axis(svg: &mut Svg, time: TimeScale, scale: ValueScale, name: &str) {
+/// The frame and the axis, with marks for its unit.
+pub fn axis(svg: &mut Svg, time: TimeScale, scale: ValueScale, name: &str, unit: &str) {
+    let count = scale.height / 26.0;
+    let marks = if unit == DEGREES { scale.degree_marks(count) } else { scale.marks(count) };
     let area = Area { x: time.left, y: scale.top, width: time.width, height: scale.height };
-    for mark in scale.marks(scale.height / 26.0) {
+    for mark in marks {
         let y = scale.at(mark);
         svg.line((time.left, y), (time.right(), y), Pen { colour: FAINT, width: 0.7, dashes: "" });
         let style = Style { size: 11.0, colour: INK, anchor: Anchor::End };
@@ -50,8 +62,8 @@ pub fn axis(svg: &mut Svg, time: TimeScale, scale: ValueScale, name: &str) {
 /// The steps of a series: whole where Good, dashed where Held, a gap where there is no number.
 pub fn draw(svg: &mut Svg, time: TimeScale, scale: ValueScale, series: &Series) {
     let pen = Pen { colour: series.colour, width: 1.8, dashes: series.dashes };
-    let good = steps(time, scale, series.signal, |sample| sample.quality == GOOD);
-    let held = steps(time, scale, series.signal, |sample| sample.quality != GOOD);
+    let good = steps(time, scale, series, |sample| sample.quality == GOOD);
+    let held = steps(time, scale, series, |sample| sample.quality != GOOD);
     if !good.is_empty() {
         svg.path(&good, pen);
     }
@@ -61,11 +73,11 @@ pub fn draw(svg: &mut Svg, time: TimeScale, scale: ValueScale, series: &Series) 
 }
 
 /// The path of the samples that are wanted. Many changes in one pixel become one upright stroke.
-fn steps(time: TimeScale, scale: ValueScale, signal: &Signal<Sample>, wanted: impl Fn(&Sample) -> bool) -> String {
+fn steps(time: TimeScale, scale: ValueScale, series: &Series, wanted: impl Fn(&Sample) -> bool) -> String {
     let mut path = Path::default();
-    for (at, (from, sample)) in signal.iter().enumerate() {
-        let to = signal.get(at + 1).map_or(time.ticks, |(next, _)| *next);
-        match number(sample).filter(|_| wanted(sample)) {
+    for (at, (from, sample)) in series.signal.iter().enumerate() {
+        let to = series.signal.get(at + 1).map_or(time.ticks, |(next, _)| *next);
+        match series.number(sample).filter(|_| wanted(sample)) {
             Some(value) => path.step(time.at(*from), time.at(to), scale.at(value)),
             None => path.flush(),
         }

@@ -1,15 +1,15 @@
 //! The picture: panels of readings, lanes of what is on, the tap, and a time axis.
 
 use crate::band::{self, Band};
-use crate::inputs::{READINGS, U_AB};
 use crate::lanes::{self, Group, Lane, Tip};
-use crate::limits::LIMITS;
-use crate::names::{COMPENSATION, TABLE};
+use crate::limits;
+use crate::names::{self, COMPENSATION, TABLE};
 use crate::outputs::TAP;
-use crate::panel::{self, Label, Series};
+use crate::panel::{self, Label, Series, LABEL_ROW};
 use crate::run::History;
 use crate::scale::{mark_text, TimeScale, ValueScale};
-use crate::sheet::is_continuous;
+use crate::series::{self, Panel};
+use crate::sheet::{is_continuous, ALONG_RX, BY_U_COMP};
 use crate::svg::*;
 use crate::value;
 
@@ -36,11 +36,12 @@ struct Picture<'a> {
 pub fn picture(history: &History, list: &[u32], title: &str) -> String {
     let time = TimeScale { left: LEFT, width: WIDTH - LEFT - RIGHT, ticks: history.ticks };
     let mut picture = Picture { svg: Svg::new(), history, list, time, y: TOP };
-    let height = height(history, list);
+    let others = series::others(history);
+    let height = height(history, list, &others);
     picture.grid(height - 50.0);
     picture.head(title);
     picture.voltage();
-    picture.others();
+    picture.others(&others);
     picture.lanes();
     picture.axis(height - 50.0);
     picture.svg.document(WIDTH, height, title, description(list))
@@ -61,25 +62,19 @@ fn groups(history: &History, list: &[u32]) -> Vec<Group> {
     groups.into_iter().chain(optional.into_iter().filter(|group| !group.is_empty())).collect()
 }
 
-fn height(history: &History, list: &[u32]) -> f64 {
-    let panels = VOLTAGE_HEIGHT + GAP + small_panels(history).len() as f64 * (SMALL_HEIGHT + GAP);
+fn height(history: &History, list: &[u32], others: &[Panel]) -> f64 {
+    let panels: f64 = others.iter().map(|panel| small_height(panel, list) + GAP).sum();
     let lanes: f64 = groups(history, list).iter().map(|group| group.len().max(1) as f64 * LANE + GAP).sum();
-    TOP + panels + lanes + 50.0
+    TOP + VOLTAGE_HEIGHT + GAP + panels + lanes + 50.0
 }
 
-/// The readings of the panels below the voltage: other voltages and currents, where there are any.
-fn small_panels(history: &History) -> Vec<(&'static str, Vec<usize>)> {
-    let used = |at: &usize| history.readings[*at].iter().any(|(_, sample)| sample.value != 0.0);
-    let others = |unit| (0..READINGS.len()).filter(move |at| *at != U_AB && READINGS[*at].unit == unit);
-    let panels = ["V", "A"].map(|unit| (unit, others(unit).filter(used).collect::<Vec<usize>>()));
-    panels.into_iter().filter(|(_, used)| !used.is_empty()).collect()
+/// The height of a panel below the voltage, with room for its names.
+fn small_height(panel: &Panel, list: &[u32]) -> f64 {
+    let names = panel.series.len() + limits::watched(&panel.readings, list).count();
+    SMALL_HEIGHT.max((names - 1) as f64 * LABEL_ROW)
 }
 
-/// How each reading is drawn: its colour and its dashes.
-const COLOURS: [(&str, &str); READINGS.len()] =
-    [(BLACK, ""), (BLUE, ""), (VERMILLION, "7 3"), (BLUE, ""), (VERMILLION, "7 3"), (GREEN, "2 3")];
-
-impl<'a> Picture<'a> {
+impl Picture<'_> {
     fn head(&mut self, title: &str) {
         let large = Style { size: 18.0, colour: INK, anchor: Anchor::Start };
         self.svg.text((20.0, 30.0), title, large);
@@ -89,14 +84,18 @@ impl<'a> Picture<'a> {
 
     /// The settings that the picture hangs on.
     fn settings(&self) -> String {
-        let compensation = if self.list[COMPENSATION] == 1 { Some("U_comp") } else { None };
+        let compensation: &[&str] = match self.list[COMPENSATION] {
+            BY_U_COMP => &["U_comp"],
+            ALONG_RX => &["R_set", "X_set"],
+            _ => &[],
+        };
         let usual: &[&str] = match is_continuous(self.list) {
             true => &["XB2", "U_supp1", "dU_set", "T1", "T3", "T4", "T8"],
             false => &["U_supp1", "dU_set", "T1", "T2", "T3", "T4", "T5", "T6", "T7", "T8"],
         };
-        let names = usual.iter().chain(compensation.iter());
+        let names = usual.iter().chain(compensation);
         let one = |name: &&str| {
-            let slot = crate::names::find(name).expect("a name of the table");
+            let slot = names::find(name).expect("a name of the table");
             format!("{name} {}", value::text(&TABLE[slot], self.list[slot]))
         };
         names.map(one).collect::<Vec<_>>().join(" · ")
@@ -111,27 +110,29 @@ impl<'a> Picture<'a> {
 
     fn voltage(&mut self) {
         let history = self.history;
-        let mut series = [self.series(U_AB)];
-        if self.list[COMPENSATION] == 1 {
-            series[0].label = "U_AB, measured".to_string();
+        let mut panel = series::voltage(history);
+        if self.list[COMPENSATION] != 0 {
+            panel.series.iter_mut().for_each(|series| series.label.push_str(", measured"));
         }
         let bands = band::bands(&history.contacts, history.ticks, self.list);
         let edges = bands.iter().flat_map(|band| [band.middle - band.half, band.middle + band.half]);
-        let (low, high) =
-            edges.fold(panel::extent(&series).unwrap_or((100.0, 100.0)), |(low, high), edge| (edge.min(low), edge.max(high)));
+        let (low, high) = edges
+            .fold(panel::extent(&panel.series).unwrap_or((100.0, 100.0)), |(low, high), edge| (edge.min(low), edge.max(high)));
         let scale = ValueScale::around(low, high, self.y, VOLTAGE_HEIGHT);
-        let mut labels = self.draw_bands(&bands, scale);
-        panel::axis(&mut self.svg, self.time, scale, "voltage, V");
-        labels.extend(self.draw_limits(&[U_AB], scale));
-        panel::draw(&mut self.svg, self.time, scale, &series[0]);
-        labels.extend(label_of(&series[0], scale));
-        panel::labels(&mut self.svg, self.time.right(), scale, labels);
-        self.y += VOLTAGE_HEIGHT + GAP;
+        let labels = self.draw_bands(&bands, scale);
+        self.panel(&panel, scale, labels);
     }
 
-    fn series(&self, at: usize) -> Series<'a> {
-        let (colour, dashes) = COLOURS[at];
-        Series { label: READINGS[at].name.to_string(), colour, dashes, signal: &self.history.readings[at] }
+    /// The axis of a panel, its limits, and what is drawn in it; labels for these and for what is there already.
+    fn panel(&mut self, panel: &Panel, scale: ValueScale, mut labels: Vec<Label>) {
+        panel::axis(&mut self.svg, self.time, scale, panel.axis, panel.unit);
+        labels.extend(self.draw_limits(panel, scale));
+        for series in &panel.series {
+            panel::draw(&mut self.svg, self.time, scale, series);
+            labels.extend(label_of(series, scale));
+        }
+        panel::labels(&mut self.svg, self.time.right(), scale, labels);
+        self.y += scale.height + GAP;
     }
 
     /// The bands and their middles.
@@ -147,16 +148,15 @@ impl<'a> Picture<'a> {
     }
 
     /// The limits of the readings in a panel, where they are watched and the scale reaches them.
-    fn draw_limits(&mut self, readings: &[usize], scale: ValueScale) -> Vec<Label> {
-        let watched = LIMITS.iter().filter(|limit| readings.contains(&limit.reading) && limit.is_watched(self.list));
+    fn draw_limits(&mut self, panel: &Panel, scale: ValueScale) -> Vec<Label> {
+        let watched = limits::watched(&panel.readings, self.list);
         let limits: Vec<(&str, f64)> = watched.map(|limit| (TABLE[limit.slot].name, self.thousandths(limit.slot))).collect();
-        let unit = READINGS[readings[0]].unit;
         let mut labels = Vec::new();
         for (name, value) in limits.into_iter().filter(|(_, value)| scale.holds(*value)) {
             let y = scale.at(value);
             let pen = Pen { colour: PURPLE, width: 1.5, dashes: "3 3" };
             self.svg.line((self.time.left, y), (self.time.right(), y), pen);
-            labels.push(Label { words: format!("{name} {} {unit}", mark_text(value)), colour: PURPLE, y });
+            labels.push(Label { words: format!("{name} {} {}", mark_text(value), panel.unit), colour: PURPLE, y });
         }
         labels
     }
@@ -165,20 +165,11 @@ impl<'a> Picture<'a> {
         f64::from(self.list[slot]) / 1000.0
     }
 
-    fn others(&mut self) {
-        for (unit, used) in small_panels(self.history) {
-            let series: Vec<Series> = used.iter().map(|at| self.series(*at)).collect();
-            let (low, high) = panel::extent(&series).unwrap_or((0.0, 1.0));
-            let scale = ValueScale::around(low.min(0.0), high, self.y, SMALL_HEIGHT);
-            let name = if unit == "A" { "current, A" } else { "3U0 and U2, V" };
-            panel::axis(&mut self.svg, self.time, scale, name);
-            let mut labels = self.draw_limits(&used, scale);
-            for one in &series {
-                panel::draw(&mut self.svg, self.time, scale, one);
-                labels.extend(label_of(one, scale));
-            }
-            panel::labels(&mut self.svg, self.time.right(), scale, labels);
-            self.y += SMALL_HEIGHT + GAP;
+    fn others(&mut self, panels: &[Panel]) {
+        for panel in panels {
+            let (low, high) = panel::extent(&panel.series).unwrap_or((0.0, 1.0));
+            let scale = ValueScale::around(low.min(0.0), high.max(0.0), self.y, small_height(panel, self.list));
+            self.panel(panel, scale, Vec::new());
         }
     }
 
@@ -301,6 +292,5 @@ fn bars(time: TimeScale, on: &[(u32, u32)]) -> Vec<Bar> {
 
 /// The name of a series, at its last number.
 fn label_of(series: &Series, scale: ValueScale) -> Option<Label> {
-    let last = series.signal.iter().rev().find_map(|(_, sample)| panel::number(sample));
-    last.map(|value| Label { words: series.label.clone(), colour: series.colour, y: scale.at(value) })
+    series.numbers().next_back().map(|value| Label { words: series.label.clone(), colour: series.colour, y: scale.at(value) })
 }

@@ -3,11 +3,12 @@
 use library::{Brought, Sample, FIELDS, INVALID};
 
 use crate::cells::lines_of;
-use crate::columns::Column;
+use crate::columns::{self, Column};
 use crate::drive::{Drive, Nature, Seen, Way};
-use crate::inputs::{is_on, with, RESET, SUPPLY_OFF, SWITCHING, U_AB};
+use crate::inputs::{is_on, with, RESET, SUPPLY_OFF, SWITCHING, U_AB, U_AB_PAIR};
 use crate::motor::Motor;
 use crate::outputs::{LOWER, RAISE, SUPPLY_TRIP};
+use crate::phasor;
 use crate::scenario::Scenario;
 use crate::sheet::is_continuous;
 
@@ -77,17 +78,20 @@ pub struct Player<'a> {
     drive: Option<Simulated>,
     bcd_given: bool,
     sensor_given: bool,
+    u_ab_given: bool,
 }
 
 impl<'a> Player<'a> {
     /// The rows alone.
     pub fn new(scenario: &'a Scenario) -> Player<'a> {
+        let given = |column: Column| scenario.columns.contains(&column);
         Player {
             scenario,
             row: 0,
             drive: None,
-            bcd_given: scenario.columns.contains(&Column::Bcd),
-            sensor_given: scenario.columns.contains(&Column::Sensor),
+            bcd_given: given(Column::Bcd),
+            sensor_given: given(Column::Sensor),
+            u_ab_given: given(Column::Reading(U_AB)),
         }
     }
 
@@ -126,8 +130,12 @@ impl<'a> Player<'a> {
         if !self.sensor_given {
             brought.sensor = shown.tap;
         }
-        let taps = f64::from(shown.tap) - f64::from(nature.tap);
-        brought.readings[U_AB] = shifted(brought.readings[U_AB], taps * nature.step);
+        let volts = (f64::from(shown.tap) - f64::from(nature.tap)) * nature.step;
+        if self.u_ab_given {
+            brought.readings[U_AB] = shifted(brought.readings[U_AB], volts);
+        }
+        let pair = columns::pair(&brought, U_AB_PAIR);
+        columns::put_pair(&mut brought, U_AB_PAIR, phasor::lengthened(pair, volts));
         brought
     }
 }

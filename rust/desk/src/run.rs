@@ -52,7 +52,8 @@ impl History {
     }
 }
 
-fn keep<T: PartialEq>(signal: &mut Signal<T>, tick: u32, value: T) {
+/// Notes a signal's value on a tick, if it is another than before.
+pub fn keep<T: PartialEq>(signal: &mut Signal<T>, tick: u32, value: T) {
     if signal.last().is_none_or(|(_, last)| *last != value) {
         signal.push((tick, value));
     }

@@ -73,6 +73,13 @@ impl ValueScale {
     pub fn marks(&self, count: f64) -> Vec<f64> {
         marks(self.low, self.high, round_step((self.high - self.low) / count))
     }
+
+    /// Round parts of a turn, at most about `count` of them.
+    pub fn degree_marks(&self, count: f64) -> Vec<f64> {
+        const STEPS: [f64; 6] = [1.0, 5.0, 10.0, 30.0, 45.0, 90.0];
+        let least = (self.high - self.low) / count;
+        marks(self.low, self.high, STEPS.into_iter().find(|step| *step >= least).unwrap_or(180.0))
+    }
 }
 
 /// 1, 2 or 5 times a power of ten, at least `least`.

@@ -3,7 +3,10 @@
 use library::SLOTS;
 
 use crate::file::{Errors, File};
-use crate::names::{self, ABSENT, CONTINUOUS, D_U, MODULE, N_L, N_POS, N_R, TABLE, TAP_SOURCE};
+use crate::inputs::{I_BUS_PAIR, I_COUPLER_PAIR, U_AB_PAIR};
+use crate::names::{
+    self, ABSENT, COMPENSATION, COMPENSATION_CURRENT, CONTINUOUS, D_U, MODULE, N_L, N_POS, N_R, TABLE, TAP_SOURCE,
+};
 use crate::unit::{self, Refusal, COUNTED, LENGTH, RANGE, TAP_ORDER};
 use crate::value;
 
@@ -104,7 +107,7 @@ fn unknown(name: &str) -> String {
     }
 }
 
-/// The numbers of the texts. The module comes first: defaults and ranges of currents hang on it.
+/// The numbers of the texts. The module comes first: defaults and ranges of currents and impedances hang on it.
 fn draft(file: &File, texts: &[Option<(usize, String)>; SLOTS], errors: &mut Errors) -> Draft {
     let module = match &texts[MODULE] {
         Some((_, text)) => value::number(&TABLE[MODULE], text).unwrap_or(0),
@@ -201,6 +204,20 @@ fn counted(list: &[u32]) -> String {
 /// Whether the sheet is for a drive without a switching contact.
 pub fn is_continuous(list: &[u32]) -> bool {
     list[CONTINUOUS] == 1
+}
+
+/// The compensations that a sheet may choose, but for none.
+pub const BY_U_COMP: u32 = 1;
+pub const ALONG_RX: u32 = 2;
+
+/// The pairs without which a unit with this sheet has no voltage to judge.
+pub fn needed_pairs(list: &[u32]) -> &'static [usize] {
+    match (list[COMPENSATION], list[COMPENSATION_CURRENT]) {
+        (ALONG_RX, 0) => &[U_AB_PAIR, I_BUS_PAIR],
+        (ALONG_RX, 1) => &[U_AB_PAIR, I_COUPLER_PAIR],
+        (ALONG_RX, _) => &[U_AB_PAIR, I_BUS_PAIR, I_COUPLER_PAIR],
+        _ => &[],
+    }
 }
 
 /// The sheet as text: every slot, with what it means.

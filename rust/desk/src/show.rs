@@ -1,10 +1,10 @@
 //! A recording as a scenario: a row where something changes.
 
-use library::Brought;
+use library::{Brought, Sample};
 
 use crate::cells;
 use crate::columns::{self, Column};
-use crate::inputs::{is_on, CONTACTS, READINGS};
+use crate::inputs::{is_on, CONTACTS, PAIRS, SCALARS};
 
 pub fn to_csv(ticks: &[Brought]) -> String {
     let columns = used(ticks);
@@ -24,11 +24,13 @@ pub fn to_csv(ticks: &[Brought]) -> String {
     text
 }
 
-/// All readings, and what else is ever other than 0.
+/// The readings, and pairs, contacts and taps where they are ever other than 0.
 fn used(ticks: &[Brought]) -> Vec<Column> {
     let contacts = ticks.iter().fold(0, |all, tick| all | tick.contacts);
     let bits = (0..CONTACTS.len() as u32).filter(|bit| is_on(contacts, *bit));
-    let mut columns: Vec<Column> = (0..READINGS.len()).map(Column::Reading).collect();
+    let pairs = (0..PAIRS.len()).filter(|at| ticks.iter().any(|tick| columns::pair(tick, *at) != [Sample::default(); 2]));
+    let parts = pairs.flat_map(|at| PAIRS[at].parts);
+    let mut columns: Vec<Column> = (0..SCALARS).chain(parts).map(Column::Reading).collect();
     columns.extend(bits.map(Column::Contact));
     if ticks.iter().any(|tick| tick.bcd != 0) {
         columns.push(Column::Bcd);
@@ -58,6 +60,6 @@ fn cell(column: Column, tick: &Brought) -> String {
         Column::Contact(bit) => u32::from(is_on(tick.contacts, bit)).to_string(),
         Column::Bcd => cells::bcd_text(tick.bcd),
         Column::Sensor => tick.sensor.to_string(),
-        Column::Drive(_) => String::new(),
+        Column::Phasor(_) | Column::Drive(_) => String::new(),
     }
 }

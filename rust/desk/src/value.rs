@@ -1,7 +1,7 @@
 //! A slot's number as a person writes it, and back.
 
 use crate::decimal;
-use crate::names::{Kind, Slot};
+use crate::names::{rated_amps, Kind, Module, Slot};
 
 /// A tick in ms.
 pub const TICK_MS: u64 = 5;
@@ -14,7 +14,11 @@ struct Measure {
 
 const VOLTS: [Measure; 2] = [measure("V", 1), measure("mV", 1000)];
 const AMPS: [Measure; 2] = [measure("A", 1), measure("mA", 1000)];
+const OHMS: [Measure; 4] = [measure("ohm", 1), measure("mohm", 1000), measure("Ω", 1), measure("mΩ", 1000)];
 const SECONDS: [Measure; 3] = [measure("s", TICK_MS), measure("ms", 1000 * TICK_MS), measure("ticks", 1000)];
+
+/// Unicode's sign for the unit, which is not the letter that looks like it.
+const OHM_SIGN: char = '\u{2126}';
 
 const fn measure(unit: &'static str, thousandths: u64) -> Measure {
     Measure { unit, thousandths }
@@ -27,6 +31,7 @@ pub fn text(slot: &Slot, number: u32) -> String {
         Kind::Words(words) => word(words, number),
         Kind::Volts => format!("{} V", decimal::text(thousandths)),
         Kind::Amps => format!("{} A", decimal::text(thousandths)),
+        Kind::Ohms => format!("{} ohm", decimal::text(thousandths)),
         Kind::Seconds => format!("{} s", decimal::text(thousandths * TICK_MS)),
         Kind::TapOrEmpty if number == 0 => "empty".to_string(),
         Kind::Number | Kind::TapOrEmpty => number.to_string(),
@@ -50,6 +55,7 @@ pub fn number(slot: &Slot, text: &str) -> Result<u32, String> {
         Kind::Words(words) => from_words(words, text),
         Kind::Volts => from_measure(&VOLTS, text),
         Kind::Amps => from_measure(&AMPS, text),
+        Kind::Ohms => from_measure(&OHMS, text),
         Kind::Seconds => from_measure(&SECONDS, text),
         Kind::TapOrEmpty if text.eq_ignore_ascii_case("empty") => Ok(0),
         Kind::Number | Kind::TapOrEmpty => whole(text),
@@ -78,7 +84,8 @@ fn whole(text: &str) -> Result<u32, String> {
 }
 
 fn from_measure(measures: &[Measure], text: &str) -> Result<u32, String> {
-    let (digits, unit) = split_unit(text);
+    let text = text.replace(OHM_SIGN, "Ω");
+    let (digits, unit) = split_unit(&text);
     let known = measures.iter().find(|m| unit.is_empty() || m.unit == unit);
     let Some(measure) = known else {
         let units: Vec<&str> = measures.iter().map(|m| m.unit).collect();
@@ -93,7 +100,7 @@ fn from_measure(measures: &[Measure], text: &str) -> Result<u32, String> {
 
 /// `1.5 s` and `1.5s` are 1.5 with the unit s.
 fn split_unit(text: &str) -> (&str, &str) {
-    let at = text.find(|c: char| c.is_ascii_alphabetic()).unwrap_or(text.len());
+    let at = text.find(char::is_alphabetic).unwrap_or(text.len());
     (text[..at].trim(), text[at..].trim())
 }
 
@@ -104,9 +111,13 @@ fn fit(number: u64) -> Result<u32, String> {
 /// What a slot takes, in words, for the module of the sheet.
 pub fn range(slot: &Slot, module: u32) -> String {
     let (low, high) = slot.bounds(module);
-    match slot.kind {
+    let takes = match slot.kind {
         Kind::Words(words) => format!("takes {}", words.join(" or ")),
         _ => format!("takes {} to {} in steps of {}", text(slot, low), text(slot, high), step(slot)),
+    };
+    match slot.module {
+        Module::Same => takes,
+        Module::Times | Module::Over => format!("{takes} with I_nom = {} A", rated_amps(module)),
     }
 }
 

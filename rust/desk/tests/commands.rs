@@ -5,6 +5,7 @@ mod common;
 use std::fs;
 
 use common::{avr, err, examples, out, Folder};
+use desk::inputs::{PAIRS, READINGS};
 use desk::{recording, sheet};
 use library::SLOTS;
 
@@ -40,6 +41,20 @@ fn help_tells_of_a_drive_without_a_contact() {
     for words in ["With XB2 = continuous in the sheet the drive has no switching contact", "up a tap that is not done"] {
         assert!(out(&avr(&["scenario", "write", "--help"])).contains(words), "{words}");
     }
+}
+
+#[test]
+fn help_tells_of_pairs() {
+    let check = out(&avr(&["sheet", "check", "--help"]));
+    let write = out(&avr(&["scenario", "write", "--help"]));
+    for words in ["XB4 = RX ", "R_set = 4.5 ohm ", "up to 80 ohm with I_nom = 5 A, up to 400 ohm with 1 A"] {
+        assert!(check.contains(words), "{words}");
+    }
+    for pair in &PAIRS {
+        let names = [pair.phasor, READINGS[pair.parts[0]].name, READINGS[pair.parts[1]].name];
+        assert!(names.iter().all(|name| write.contains(name)), "{}", pair.name);
+    }
+    assert!(write.contains("`0.8@-30 held`"));
 }
 
 #[test]
@@ -120,6 +135,51 @@ fn a_counted_tap_without_a_contact_is_told_with_file_and_line() {
 }
 
 #[test]
+fn a_compensation_and_a_resistance_out_of_range_are_told() {
+    let folder = Folder::new("rx");
+    let text = folder.write("a.txt", "I_nom = 5 A\nXB4 = raw 3\nR_set = 400 ohm\n");
+    let output = avr(&["sheet", "check", &text, "-o", &folder.path("a.sheet")]);
+    let told = format!(
+        "avr: {text}:2: XB4 = raw 3: it takes off or U_comp or RX (refusal 2, slot 3)\n\
+         avr: {text}:3: R_set = 400 ohm: it takes 0 ohm to 80 ohm in steps of 0.001 ohm with I_nom = 5 A (refusal 2, slot 64)\n"
+    );
+    assert_eq!((output.status.code(), out(&output).as_str(), err(&output)), (Some(1), "", told));
+    assert_eq!(folder.names(), ["a.txt"]);
+}
+
+/// A remark for each pair that is needed and not given, beside what is done all the same.
+#[test]
+fn a_scenario_without_a_needed_pair_is_remarked_on() {
+    let folder = Folder::new("pairs");
+    let without = "goes by I_coupler as a pair, which no column gives, so that it is 0: \
+                   add I_coupler_phasor, or I_coupler_re and I_coupler_im\n";
+    for (current, columns, told) in [
+        ("bus", "U_AB_phasor,I_bus_re", vec![]),
+        ("bus-coupler", "U_AB_im,I_bus_phasor", vec!["I_coupler"]),
+        ("coupler", "U_AB,I_bus_phasor", vec!["U_AB", "I_coupler"]),
+        ("bus+coupler", "U_AB,I_bus", vec!["U_AB", "I_bus", "I_coupler"]),
+    ] {
+        let sheet = folder.write("a.txt", format!("XB1 = on\nXB4 = RX\nXB5 = {current}\n"));
+        let csv = folder.write("a.csv", format!("ticks,{columns}\n0\n5,end\n"));
+        for words in [
+            vec!["run", "--sheet", &sheet, "--scenario", &csv],
+            vec!["scenario", "write", &csv, "--sheet", &sheet, "-o", &folder.path("a.rec")],
+        ] {
+            let output = avr(&words);
+            assert!(output.status.success() && !out(&output).is_empty());
+            let said = err(&output);
+            let head = format!("avr: {csv}: XB4 = RX with XB5 = {current} goes by ");
+            let names: Vec<&str> = said.lines().map(|line| line.strip_prefix(&head).expect("a remark")).collect();
+            let names: Vec<&str> = names.iter().filter_map(|line| line.split(' ').next()).collect();
+            assert_eq!(names, told, "{said}");
+            assert!(!told.contains(&"I_coupler") || said.ends_with(without), "{said}");
+        }
+    }
+    let (sheet, csv) = (folder.write("a.txt", "XB4 = U_comp\n"), folder.write("a.csv", SCENARIO));
+    assert_eq!(err(&avr(&["run", "--sheet", &sheet, "--scenario", &csv])), "");
+}
+
+#[test]
 fn a_refused_binary_sheet_is_not_shown() {
     let folder = Folder::new("binary");
     let zeros = folder.write("zeros", [0; sheet::BYTES]);
@@ -177,7 +237,7 @@ fn outputs(table: &str) -> Vec<String> {
 #[test]
 fn a_recording_of_an_example_runs_as_the_example_does() {
     let folder = Folder::new("replay");
-    for story in ["two-steps", "sliding-tap", "long-move", "continuous-in-band", "continuous-long"] {
+    for story in ["two-steps", "sliding-tap", "long-move", "continuous-in-band", "continuous-long", "long-feeder"] {
         let place = |name: &str| examples().join(story).join(name).to_str().expect("a plain path").to_string();
         let (sheet, scenario, recording) = (place("sheet.txt"), place("scenario.csv"), folder.path("a.rec"));
         let written = avr(&["scenario", "write", &scenario, "--sheet", &sheet, "-o", &recording]);

@@ -133,6 +133,52 @@ fn a_crowded_picture_can_be_read() {
     }
 }
 
+/// Pairs of all kinds beside their scalars, and U_AB as a pair alone.
+const CROWDED_PAIRS: &str = "\
+seconds,U_AB_phasor,U2,I_high,I_bus,I_bus_phasor,I_coupler,I_coupler_phasor,breaker,automatic,drive\n\
+0,100@30,1,0.2,0.6,0.6@0,0.3,0.3@10,1,1,ok\n\
+10,,,1.5,0.8,0.8@-20,,0.3@-170\n\
+30,101@30 held,,,,,,invalid\n\
+40,invalid,,,,0.9@60\n\
+45,100@30,5,,,,0.5,0.5@50\n\
+80,end\n\
+";
+
+fn drawn(sheet: &str, scenario: &str) -> String {
+    let list = sheet::read(&file(sheet)).expect("a sheet").list;
+    let scenario = scenario::read(&file(scenario)).expect("a scenario");
+    let source = Source::Scenario(Player::with_drive(&scenario, &list));
+    let unit = start(&list).expect("taken");
+    let history = run::run(unit, source, &mut Progress::usual(), |_| ()).expect("a run");
+    picture(&history, &list, "drawn")
+}
+
+#[test]
+fn pairs_are_drawn_by_magnitude_and_angle() {
+    let sheet = format!("{CROWDED_SHEET}XB4 = RX\nXB5 = bus+coupler\nR_set = 1.5 ohm\nX_set = 3 ohm\nI_set2 = 0.9 A\n");
+    let text = drawn(&sheet, CROWDED_PAIRS);
+    check_texts("pairs", &text);
+    let words = ["|U_AB|, measured", "|I_bus|", "|I_coupler|", "I_bus", "I_coupler", "ahead of U_AB, °", "90"];
+    for words in words {
+        assert!(text.contains(&format!(">{words}</text>")), "{words}");
+    }
+    assert!(!text.contains(">U_AB, measured<"), "U_AB comes as a pair alone");
+    assert!(text.contains(" · R_set 1.5 ohm · X_set 3 ohm<"));
+}
+
+#[test]
+fn only_what_is_brought_is_drawn_of_the_pairs() {
+    let rows = "0,100,100@0,1,1\n1,end\n";
+    let both = drawn("XB1 = on\nXB4 = RX\n", &format!("seconds,U_AB,U_AB_phasor,breaker,automatic\n{rows}"));
+    assert!(both.contains(">U_AB, measured<") && both.contains(">|U_AB|, measured<"));
+    assert!(!both.contains("ahead of U_AB") && !both.contains(">current, A<"));
+    let current = drawn("XB1 = on\n", &format!("seconds,U_AB,I_bus_phasor,breaker,automatic\n{rows}"));
+    assert!(current.contains(">U_AB<") && current.contains(">|I_bus|<") && current.contains(">current, A<"));
+    assert!(!current.contains("|U_AB|") && !current.contains("ahead of U_AB"));
+    let none = drawn("XB1 = on\nXB4 = RX\n", "seconds,U_AB,U_AB_phasor,I_bus_re,breaker\n0,100,0@0,0,1\n1,end\n");
+    assert!(!none.contains('|') && !none.contains("ahead of U_AB"));
+}
+
 /// The picture of a unit whose switching contact closes, or not, for a sheet with this regulation.
 fn picture_of(continuous: u32, closed: bool) -> String {
     let mut list = defaults(0);

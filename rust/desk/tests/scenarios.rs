@@ -47,7 +47,7 @@ fn seconds_and_ticks_are_two_ways_to_say_it() {
 fn readings_have_marks() {
     let ticks = ticks("ticks,U_AB,3U0,U2,I_high,I_bus,I_coupler\n0,98.2 held,invalid,3,0.5,nan,-1\n1,end");
     let quality: Vec<u32> = ticks[0].readings.iter().map(|sample| sample.quality).collect();
-    assert_eq!(quality, [1, 2, 0, 0, 0, 0]);
+    assert_eq!(quality, [1, 2, 0, 0, 0, 0, 0, 0, 0, 0, 0, 0]);
     assert_eq!(ticks[0].readings[0].value, 98.2);
     assert!(ticks[0].readings[4].value.is_nan());
 }
@@ -171,7 +171,7 @@ fn a_tick_has_its_bytes_in_the_order_of_the_format() {
 }
 
 /// A scenario, HEAD standing for a header, and what is told of it.
-const BAD_SCENARIOS: [(&str, &str); 29] = [
+const BAD_SCENARIOS: [(&str, &str); 35] = [
     ("", "file: no row is in it"),
     ("# nothing\n", "file: no row is in it"),
     ("time,U_AB\n0,1\n1,end", "file:1: the first column must be `seconds` or `ticks`, and not `time`"),
@@ -193,6 +193,21 @@ const BAD_SCENARIOS: [(&str, &str); 29] = [
     ("HEAD0,1,1,1,1,1\n2,end", "file:2: 6 cells, and the first row has 5"),
     ("HEAD0,x\n2,end", "file:2: U_AB: `x` is no reading: 98.2, 98.2 held or invalid"),
     ("HEAD0,held\n2,end", "file:2: U_AB: `held` is no reading: 98.2, 98.2 held or invalid"),
+    ("ticks,u_ab_phasor\n0,1@0\n1,end", "file:1: no column is called `u_ab_phasor`; U_AB_phasor is one"),
+    ("ticks,I_bus_RE\n0,1\n1,end", "file:1: no column is called `I_bus_RE`; I_bus_re is one"),
+    (
+        "ticks,U_AB_phasor,U_AB,U_AB_im\n0,1@0\n1,end",
+        "file:1: `U_AB_im` and `U_AB_phasor` are both there: give U_AB by its parts or by its phasor",
+    ),
+    (
+        "# a comment\nticks,I_coupler_re,I_coupler_im,U_AB_im,I_coupler_phasor\n0,1\n1,end",
+        "file:2: `I_coupler_re` and `I_coupler_phasor` are both there: give I_coupler by its parts or by its phasor",
+    ),
+    ("ticks,I_bus_phasor,I_bus_phasor\n0,1@0\n1,end", "file:1: the column `I_bus_phasor` is there twice"),
+    (
+        "ticks,I_bus_phasor\n0,0.8\n1,end",
+        "file:2: I_bus_phasor: `0.8` is no phasor: a magnitude from 0 on and degrees, 0.8@-30 or 0.8@-30 held, or invalid",
+    ),
     ("HEAD0,,yes\n2,end", "file:2: breaker: `yes` is no contact: 1 or 0, on or off, closed or open"),
     ("HEAD0,,,100\n2,end", "file:2: BCD: `100` is no BCD code: a tap from 0 to 99, or lines from 0x00 to 0xff"),
     ("HEAD0,,,,256\n2,end", "file:2: sensor: `256` is no sensor number: 0 to 255"),

@@ -67,6 +67,28 @@ fn a_counted_tap_is_refused_with_continuous_regulation_alone() {
     }
 }
 
+/// In mΩ, by what the ranges are and not by the table.
+#[test]
+fn resistance_and_reactance_go_up_to_400_ohm_with_1_a_and_to_80_with_5() {
+    for (slot, module, highest) in [(64, 0, 400_000), (65, 0, 400_000), (64, 1, 80_000), (65, 1, 80_000)] {
+        for (number, taken) in [(0, true), (1, true), (highest, true), (highest + 1, false), (u32::MAX, false)] {
+            let mut list = defaults(module);
+            list[slot] = number;
+            let wanted = if taken { None } else { Some(Refusal { number: 2, slot: slot as u32 }) };
+            assert_eq!(start(&list).err(), wanted, "slot {slot}, module {module}: {number}");
+        }
+    }
+}
+
+#[test]
+fn compensation_takes_0_to_2() {
+    for number in 0..=4 {
+        let mut list = defaults(0);
+        list[3] = number;
+        assert_eq!(start(&list).err(), (number > 2).then_some(Refusal { number: 2, slot: 3 }), "{number}");
+    }
+}
+
 #[test]
 fn the_module_takes_0_and_1() {
     for number in [0, 1] {
@@ -79,7 +101,7 @@ fn the_module_takes_0_and_1() {
     }
 }
 
-const MANUAL_DEFAULTS: [&str; 33] = [
+const MANUAL_DEFAULTS: [&str; 36] = [
     "I_nom = 1 A",
     "U_supp4 = 100 V",
     "dU_set = 2 V",
@@ -113,6 +135,9 @@ const MANUAL_DEFAULTS: [&str; 33] = [
     "XB17 = pulse",
     "XB20 = off",
     "XB2 = impulse",
+    "XB4 = off",
+    "R_set = 0 ohm",
+    "X_set = 0 ohm",
 ];
 
 #[test]
@@ -195,6 +220,14 @@ fn values_are_written_as_people_write_them() {
         ("XB6 = bcd", 5, 1),
         ("XB6 = counted-reversed", 5, 4),
         ("XB4 = u_comp", 3, 1),
+        ("XB4 = rx", 3, 2),
+        ("R_set = 4.5 ohm", 64, 4500),
+        ("R_set = 4.5", 64, 4500),
+        ("R_set = 4500 mohm", 64, 4500),
+        ("X_set = 4.5 Ω", 65, 4500),
+        ("X_set = 4500mΩ", 65, 4500),
+        ("X_set = 0.001 \u{2126}", 65, 1),
+        ("X_set = 400 ohm", 65, 400_000),
         ("XB5 = bus+coupler", 4, 3),
         ("XB5 = bus - coupler", 4, 2),
         ("XB17 = lasting", 16, 1),
@@ -244,8 +277,25 @@ fn a_refusal_reads_well() {
     );
     assert_eq!(
         one_problem("I_nom = 5 A\nI_set3 = 0.1 A"),
-        "file:2: I_set3 = 0.1 A: it takes 0.25 A to 25 A in steps of 0.001 A (refusal 2, slot 27)"
+        "file:2: I_set3 = 0.1 A: it takes 0.25 A to 25 A in steps of 0.001 A with I_nom = 5 A (refusal 2, slot 27)"
     );
+    assert_eq!(one_problem("XB4 = raw 3"), "file:1: XB4 = raw 3: it takes off or U_comp or RX (refusal 2, slot 3)");
+}
+
+#[test]
+fn a_range_that_goes_by_the_module_says_so() {
+    assert_eq!(
+        one_problem("I_nom = 5 A\nR_set = 80.001 ohm"),
+        "file:2: R_set = 80.001 ohm: it takes 0 ohm to 80 ohm in steps of 0.001 ohm with I_nom = 5 A (refusal 2, slot 64)"
+    );
+    assert_eq!(
+        one_problem("X_set = 401"),
+        "file:1: X_set = 401 ohm: it takes 0 ohm to 400 ohm in steps of 0.001 ohm with I_nom = 1 A (refusal 2, slot 65)"
+    );
+    let told = problems("I_nom = raw 7\nX_set = 401");
+    assert_eq!(told.len(), 2, "{told:?}");
+    assert!(told[1].contains("takes 0 ohm to 400 ohm in steps of 0.001 ohm with I_nom = 1 A"), "{told:?}");
+    assert!(sheet::read(&file("I_nom = 5 A\nR_set = 80 ohm\nX_set = 80 ohm")).is_ok());
 }
 
 #[test]
@@ -361,6 +411,10 @@ fn bad_lines_are_told_with_their_line() {
         ("T1 = 0.101", "file:1: T1 = 0.101: is finer than a sheet can hold; it takes 0.1 s to 180 s in steps of 0.005 s (slot 33)"),
         ("T1 = 0.1001", "file:1: T1 = 0.1001: has more than three decimals; it takes 0.1 s to 180 s in steps of 0.005 s (slot 33)"),
         ("T1 = 99999999999", "file:1: T1 = 99999999999: is too large; it takes 0.1 s to 180 s in steps of 0.005 s (slot 33)"),
+        ("R_set = 4 kohm", "file:1: R_set = 4 kohm: has the unit `kohm`, and not ohm or mohm or Ω or mΩ; it takes 0 ohm to 400 ohm in steps of 0.001 ohm with I_nom = 1 A (slot 64)"),
+        ("R_set = 0.0005", "file:1: R_set = 0.0005: has more than three decimals; it takes 0 ohm to 400 ohm in steps of 0.001 ohm with I_nom = 1 A (slot 64)"),
+        ("x_set = 1", "file:1: no setting is called `x_set`; X_set is one"),
+        ("XB4 = R_set", "file:1: XB4 = R_set: is none of its words; it takes off or U_comp or RX (slot 3)"),
         ("N_R = 1.5", "file:1: N_R = 1.5: is not a whole number; it takes 1 to 40 in steps of 1 (slot 49)"),
         ("XB1 = 1", "file:1: XB1 = 1: is none of its words; it takes off or on (slot 0)"),
         ("T1 = raw x", "file:1: T1 = raw x: `x` is no number of 32 bits; it takes 0.1 s to 180 s in steps of 0.005 s (slot 33)"),

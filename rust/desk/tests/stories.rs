@@ -6,13 +6,14 @@ use std::fs;
 
 use common::{avr, between, check_texts, err, examples, Folder};
 
-const STORIES: [&str; 13] = [
+const STORIES: [&str; 14] = [
     "acceleration",
     "band-edge",
     "compensation",
     "continuous-in-band",
     "continuous-long",
     "fast-move",
+    "long-feeder",
     "long-move",
     "manual-keys",
     "not-started",
@@ -70,6 +71,7 @@ fn each_story_is_told() {
         ("organ-blocks", vec!["TRIP: I_bus over I_set2", "out  automatic blocked", "out  automatic free"]),
         ("band-edge", vec!["U_AB 100.0994 V\n     40.005", "U_AB 100.1 V\n                        out  voltage high"]),
         ("compensation", vec!["I_bus 0.4 A\n                        out  voltage low"]),
+        ("long-feeder", vec!["20.000       4000  out  RAISE command", "50.000      10000  out  RAISE command", TURNED]),
         ("continuous-in-band", vec!["30.000       6000  out  RAISE command", "out  tap 10", "out  tap 11", IN_BAND]),
         ("continuous-long", vec!["10.000       2000  out  RAISE command", LONG, RESET, AFTER_T1]),
     ] {
@@ -115,6 +117,21 @@ const AFTER_T1: &str = "\
      46.000       9200  in   U_AB 99.9 V
                         out  raise command off
 ";
+
+/// The same current, turned from 30 degrees behind the voltage to 30 ahead of it.
+const TURNED: &str = "\
+     70.005      14001  in   I_bus_im 0.4 A
+                        out  voltage high
+     80.000      16000  out  LOWER command
+";
+
+/// At the busbar the voltage is in its band, 97.5 to 102.5 V, on every tick.
+#[test]
+fn the_long_feeders_busbar_stays_in_band() {
+    let table = read("long-feeder", "table.txt");
+    let volts: Vec<&str> = table.lines().filter_map(|line| line.split_once("in   U_AB ")?.1.strip_suffix(" V")).collect();
+    assert_eq!(volts, ["99.3", "100.8", "102.3", "100.8"]);
+}
 
 #[test]
 fn no_text_lies_on_another_or_outside_the_picture() {
