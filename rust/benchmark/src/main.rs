@@ -9,7 +9,8 @@ use reference::dice::Dice;
 use reference::input::Input;
 use reference::record::Record;
 use reference::recording::{tick_from_bytes, TICK_BYTES};
-use reference::sheet;
+use reference::sheet::{self, slot, Settings};
+use reference::voltage::compensated;
 
 const TICKS: usize = 20_000;
 
@@ -67,6 +68,17 @@ fn second(start: &Record, ticks: &[Input], runs: u32) -> u64 {
     sum
 }
 
+/// What the recording is of.
+fn told(settings: &Settings) -> String {
+    let kind = if sheet::is_continuous(settings) { "without" } else { "with" };
+    let way = match settings[slot::COMPENSATION] {
+        compensated::NOT => "no compensation",
+        compensated::BY_U_COMP => "compensation by U_comp",
+        _ => "compensation along R and X",
+    };
+    format!("a drive {kind} a switching contact, {way}")
+}
+
 /// Nanoseconds a tick, and the sum that the ways must share.
 fn timed(runs: u32, way: impl Fn(u32) -> u64) -> (f64, u64) {
     let from = Instant::now();
@@ -92,8 +104,7 @@ fn main() {
             let (b, y) = timed(runs, |n| by_value(&image, &ticks, n));
             let (c, z) = timed(runs, |n| second(&record, &inputs, n));
             assert!(x == y && y == z, "the three ways differ");
-            let kind = if sheet::is_continuous(&record.settings) { "without" } else { "with" };
-            println!("a drive {kind} a switching contact, {} ticks a way", u64::from(runs) * TICKS as u64);
+            println!("{}, {} ticks a way", told(&record.settings), u64::from(runs) * TICKS as u64);
             for (name, ns) in [("proved, lent", a), ("proved, by value", b), ("second program", c)] {
                 println!("{name:18} {ns:7.1} ns a tick, {:9.0} ticks a second", 1e9 / ns);
             }

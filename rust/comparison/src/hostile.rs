@@ -30,7 +30,7 @@ fn number(dice: &mut Dice, image: &Image, old: u32) -> u32 {
         0 | 1 => dice.between(0, 5),
         2 => old.wrapping_add(near).wrapping_sub(1),
         3 => dice.pick(&image.settings).wrapping_add(near).wrapping_sub(1),
-        4 => dice.pick(&[LONGEST_WAIT, LONGEST_WAIT + 1, MOST_OPERATIONS, MOST_OPERATIONS + 1, u32::MAX]),
+        4 => dice.pick(&[LONGEST_WAIT, LONGEST_WAIT + 1, MOST_OPERATIONS, MOST_OPERATIONS + 1, 80_001, 400_001, u32::MAX]),
         _ => dice.bits() >> dice.between(0, 31),
     }
 }

@@ -1,5 +1,5 @@
-//! The scope paper's bench values that are not proved together, its five 'wrong and inviting' ones, and readings beside a half of a
-//! thousandth, on the proved library; each tick is held to the second program's as well.
+//! The scope paper's bench values that are not proved together, its five 'wrong and inviting' ones, readings beside a half of a
+//! thousandth, and compensation along R and X, on the proved library; each tick is held to the second program's as well.
 
 use comparison::convert::{brought, image_of};
 use library::{start, tick, Image, Outputs, FIELDS};
@@ -193,6 +193,117 @@ fn a_negative_drop_is_rounded_toward_zero() {
     assert_eq!(unit.tick(&input)[17], 1);
     input.u_ab = Reading::Good(f32::from_bits(0x42C5_FE77 + 0x84));
     assert_eq!(unit.tick(&input)[17], 0);
+}
+
+/// A tick with U_AB and I_bus as pairs, real and imaginary part, and no other reading.
+fn pairs(u_ab: [f32; 2], i_bus: [f32; 2]) -> Input {
+    let mut readings = [Reading::Invalid; READINGS];
+    for (place, part) in readings[6..10].iter_mut().zip(u_ab.into_iter().chain(i_bus)) {
+        *place = Reading::Good(part);
+    }
+    Input::of(readings, BREAKER | AUTOMATIC, 0, 0)
+}
+
+/// Compensation along this R and X, in mΩ.
+fn along(r: u32, x: u32) -> [(usize, u32); 3] {
+    [(slot::COMPENSATION, 2), (slot::R, r), (slot::X, x)]
+}
+
+/// Whether U is missing, low and high on a tick.
+fn judged(slots: &[(usize, u32)], input: &Input) -> [u32; 3] {
+    let shown = Unit::new(slots).tick(input);
+    [shown[13], shown[17], shown[18]]
+}
+
+const MISSING: [u32; 3] = [1, 0, 0];
+const LOW: [u32; 3] = [0, 1, 0];
+const IN_BAND: [u32; 3] = [0, 0, 0];
+const HIGH: [u32; 3] = [0, 0, 1];
+
+/// On both sides of 99,000.5 mV, with either sign: 99,000 is the band's edge.
+#[test]
+fn a_part_counts_by_its_magnitude() {
+    let half = Half { below: 0x42C6_0041, above: 0x42C6_0042 };
+    for sign in [1.0, -1.0] {
+        assert_eq!(half.shows(&along(0, 0), 17, |x| pairs([sign * x, 0.0], [0.0; 2])), [1, 0]);
+        assert_eq!(half.shows(&along(0, 0), 17, |x| pairs([-0.0, sign * x], [-0.0; 2])), [1, 0]);
+    }
+}
+
+#[test]
+fn parts_are_missing_past_either_end_of_their_range() {
+    let (volts, amps) = (f32::from_bits(0x4348_0001), f32::from_bits(0x4220_0001));
+    for sign in [1.0, -1.0] {
+        assert_eq!(judged(&along(0, 0), &pairs([sign * 200.0, 0.0], [0.0; 2])), HIGH);
+        assert_eq!(judged(&along(0, 0), &pairs([100.0, sign * volts], [0.0; 2])), MISSING);
+        assert_eq!(judged(&along(1, 0), &pairs([100.0, 0.0], [0.0, sign * 40.0])), IN_BAND);
+        assert_eq!(judged(&along(1, 0), &pairs([100.0, 0.0], [sign * amps, 0.0])), MISSING);
+        assert_eq!(judged(&along(1, 0), &pairs([100.0, 0.0], [0.0, sign * f32::INFINITY])), MISSING);
+    }
+    assert_eq!(judged(&along(0, 0), &pairs([f32::NAN, 100.0], [0.0; 2])), MISSING);
+}
+
+/// 1 mΩ and 1 A are 1.732 mV: 1, and the other way -1. 0.4 A in both parts, 0.69 mV each along R and X, are 1.39 together: 1.
+#[test]
+fn a_drop_is_divided_once_toward_zero() {
+    let u = |mv: f32, i_bus: [f32; 2], x: u32| judged(&along(1, x), &pairs([mv / 1_000.0, 0.0], i_bus));
+    assert_eq!((u(99_001.0, [1.0, 0.0], 0), u(99_002.0, [1.0, 0.0], 0)), (LOW, IN_BAND));
+    assert_eq!((u(98_999.0, [-1.0, 0.0], 0), u(99_000.0, [-1.0, 0.0], 0)), (LOW, IN_BAND));
+    assert_eq!((u(99_001.0, [0.4, -0.4], 1), u(99_002.0, [0.4, -0.4], 1)), (LOW, IN_BAND));
+    assert_eq!(u(99_001.0, [0.4, -0.4], 0), IN_BAND);
+}
+
+/// 99,000² + 444² lies below 99,001², and 99,000² + 445² above it.
+#[test]
+fn u_is_the_whole_part_of_the_root() {
+    for (im, wanted) in [(0.444, LOW), (0.445, IN_BAND)] {
+        for u_ab in [[99.0, im], [-99.0, im], [im, -99.0]] {
+            assert_eq!(judged(&along(0, 0), &pairs(u_ab, [0.0; 2])), wanted, "{u_ab:?}");
+        }
+    }
+}
+
+/// R 1.5 and X 3 ohm, 0.8 A: 30 degrees behind U_AB, in phase with it, and 40 ahead.
+#[test]
+fn the_drop_turns_with_the_current() {
+    let turned = |i_bus: [f32; 2]| judged(&along(1_500, 3_000), &pairs([100.4, 0.0], i_bus));
+    assert_eq!(turned([0.69282, -0.4]), LOW);
+    assert_eq!(turned([0.8, 0.0]), LOW);
+    assert_eq!(turned([0.75175, 0.27362]), IN_BAND);
+    assert_eq!(turned([0.61284, 0.51423]), HIGH);
+}
+
+/// A needed part that is Held or Invalid takes U away; U_AB by itself and the pair that slot 4 does not name are not needed.
+#[test]
+fn only_the_parts_that_slot_4_names_are_needed() {
+    let needed: [&[usize]; 4] = [&[6, 7, 8, 9], &[6, 7, 10, 11], &[6, 7, 8, 9, 10, 11], &[6, 7, 8, 9, 10, 11]];
+    for (current, needed) in (0..).zip(needed) {
+        let slots = [&along(1_500, 3_000)[..], &[(slot::COMPENSATION_CURRENT, current)]].concat();
+        for (place, without) in (0..READINGS).flat_map(|at| [Reading::Held(0.0), Reading::Invalid].map(|r| (at, r))) {
+            let mut readings = [Reading::Good(0.0); READINGS];
+            readings[6] = Reading::Good(100.0);
+            readings[place] = without;
+            let wanted = if needed.contains(&place) { MISSING } else { IN_BAND };
+            let input = Input::of(readings, BREAKER | AUTOMATIC, 0, 0);
+            let input = Input { u_ab: if place == 0 { without } else { Reading::Good(150.0) }, ..input };
+            assert_eq!(judged(&slots, &input), wanted, "slot 4 is {current}, reading {place}");
+        }
+    }
+}
+
+/// The organs go by U_AB itself, the band and T3 by the pair.
+#[test]
+fn organs_stay_with_the_scalar_and_t3_goes_by_the_pair() {
+    let watched = [(slot::ORGANS_ON + 3, 1), (slot::T9 + 3, 0), (slot::VOLTAGE_ORGANS_PASS, 1)];
+    let delays = [(slot::T1, 40), (slot::T3, 20)];
+    let slots = [&along(0, 0)[..], &watched, &delays].concat();
+    let input = Input { u_ab: Reading::Good(130.0), ..pairs([100.0, 0.0], [0.0; 2]) };
+    let shown = Unit::new(&slots).tick(&input);
+    assert_eq!((shown[9], shown[17], shown[18]), (1, 0, 0));
+    for (u_ab, lowered) in [([110.0, 0.1], 0), ([0.0, -110.001], 1)] {
+        let input = Input { u_ab: Reading::Good(100.0), ..pairs(u_ab, [0.0; 2]) };
+        assert_eq!(Unit::new(&slots).ticks(20, &input)[1], lowered, "{u_ab:?}");
+    }
 }
 
 #[test]

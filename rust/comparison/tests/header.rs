@@ -2,8 +2,8 @@
 
 mod sources;
 
-use desk::inputs::CONTACTS;
-use desk::names::TABLE;
+use desk::inputs::{CONTACTS, READINGS};
+use desk::names::{Module, Slot, TABLE};
 use desk::outputs::SHORT;
 use sources::{between, c_fields, constants, define, fields, find, paths, read, rows, Field, Row};
 
@@ -107,15 +107,23 @@ fn slots_have_the_librarys_names() {
     assert!(runs.iter().all(|run| named.contains(&(run.name.replace("AVR_SLOT_", ""), run.number))), "{runs:?}");
 }
 
+/// A number of a slot's range for every module: `100k` is 100 with 1 A and 500 with 5 A, `400000/k` 400,000 and 80,000.
+fn end(slot: &Slot, number: u32) -> String {
+    match slot.module {
+        Module::Times if number > 0 => format!("{number}k"),
+        Module::Over if number > 0 => format!("{number}/k"),
+        _ => number.to_string(),
+    }
+}
+
 /// The comment of a slot begins with the manual's name and ends with the range; a test of the desk tool holds its ranges to the
 /// library at every edge.
 #[test]
 fn slots_have_the_manuals_names_and_their_ranges() {
     let (rows, _) = in_order(&read("c/avr.h"), "avr_slot", library::SLOTS);
     for (row, slot) in rows.iter().zip(&TABLE) {
-        let k = if slot.per_module { "k" } else { "" };
         let step = if slot.step == 1 { String::new() } else { format!(", step {}", slot.step) };
-        let range = format!("; {}{k}-{}{k}{step}", slot.low, slot.high);
+        let range = format!("; {}-{}{step}", end(slot, slot.low), end(slot, slot.high));
         assert!(row.comment.starts_with(&format!("{}: ", slot.name)), "{}: {}", row.name, row.comment);
         assert!(row.comment.ends_with(&range), "{}: {} has another range than{range}", row.name, row.comment);
     }
@@ -141,6 +149,15 @@ fn the_desk_tools_contacts_are_the_librarys() {
         assert!(name.contains(&short), "the column {} stands for {name}", contact.name);
     }
     assert!(CONTACTS[names.len()..].iter().all(|contact| contact.name.starts_with("bit")));
+}
+
+/// The manual calls the library's `u0` 3U0.
+#[test]
+fn the_desk_tools_readings_are_the_librarys() {
+    let fields = fields(&read("crates/image/src/bringing.rt"), "Brought", &[]);
+    let names: Vec<&str> = fields.iter().filter(|field| field.kind == "Sample").map(|field| field.name.as_str()).collect();
+    let desk: Vec<String> = READINGS.iter().map(|reading| reading.name.to_ascii_lowercase().replace("3u0", "u0")).collect();
+    assert_eq!(desk, names);
 }
 
 #[test]

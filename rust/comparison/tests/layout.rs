@@ -165,6 +165,36 @@ fn readings_stand_in_their_places() {
     assert_eq!(outputs.fields[17], 1, "I_coupler takes U_comp off U_AB");
 }
 
+/// Low and high on a tick with 100 V in one part of U_AB's pair and 1 A in one part of a current's, all other readings that slot 4
+/// does not name Invalid. The line is R or X alone, 1 ohm.
+fn judged(impedance: usize, current: u32, volts: usize, amps: usize) -> [u32; 2] {
+    let line = [(slot::R, 0), (slot::X, 0), (impedance, 1_000)];
+    let way = [(slot::COMPENSATION, 2), (slot::COMPENSATION_CURRENT, current)];
+    let mut image = fresh(&[&line[..], &way[..]].concat());
+    let mut brought = idle();
+    let named = 8 + 2 * current as usize;
+    for part in [6, 7, named, named + 1] {
+        brought.readings[part] = Sample { quality: 0, value: 0.0 };
+    }
+    (brought.readings[volts].value, brought.readings[amps].value) = (100.0, 1.0);
+    let mut outputs = Outputs { fields: [9; FIELDS] };
+    assert_eq!(tick(&mut image, &brought, &mut outputs), 0);
+    [outputs.fields[17], outputs.fields[18]]
+}
+
+/// Each part of a pair, R and X are read from their own places: along R a current takes 1.7 V off the part of its own kind, along X
+/// it turns by a quarter.
+#[test]
+fn parts_stand_in_their_places() {
+    let (low, high, neither) = ([1, 0], [0, 1], [0, 0]);
+    for (current, [re, im]) in [(0, [8, 9]), (1, [10, 11])] {
+        let places = [(6, re), (6, im), (7, re), (7, im)];
+        let along = |impedance: usize| places.map(|(volts, amps)| judged(impedance, current, volts, amps));
+        assert_eq!(along(slot::R), [low, neither, neither, low], "R, slot 4 is {current}");
+        assert_eq!(along(slot::X), [neither, high, low, neither], "X, slot 4 is {current}");
+    }
+}
+
 #[test]
 fn the_taps_bytes_stand_in_their_places() {
     for (source, tap) in [(1, 24), (2, 13)] {
