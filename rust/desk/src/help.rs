@@ -123,7 +123,8 @@ Runs the unit with the sheet (text or SHEET) over a scenario (CSV) or a RECORDIN
   --title TEXT    the picture's title; else the name of the scenario's file
 
 Tick n is told at n times 0.005 s. What a row brings at 10 s is seen first on the tick after, at 10.005 s; a delay of 20 s that
-begins there ends at 30 s. Readings of a recording are not told in the table. The picture has the pairs by magnitude, |U_AB|, and
-by the degrees that a current is ahead of U_AB. A remark on standard error tells where XB4 = RX needs a pair that the scenario
-does not give.
+begins there ends at 30 s. Readings of a recording are not told in the table.
+
+The table tells pairs by their parts, the picture by their magnitudes, |U_AB|, and by the degrees that a current is ahead of U_AB.
+A remark on standard error says where XB4 = RX needs a pair that the scenario does not give.
 ";

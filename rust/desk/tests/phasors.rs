@@ -233,7 +233,7 @@ fn the_unit_misses_the_needed_pairs_and_no_other() {
         let mut list = defaults(0);
         (list[0], list[COMPENSATION], list[COMPENSATION_CURRENT]) = (1, 2, current);
         let needed = needed_pairs(&list);
-        for part in SCALARS..READINGS.len() {
+        for (part, reading) in READINGS.iter().enumerate().skip(SCALARS) {
             let mut brought = Brought { contacts: 1, ..Brought::default() };
             brought.readings[U_AB].quality = INVALID;
             let low = |brought: &Brought| start(&list).expect("taken").tick(brought).expect("a tick")[LOW] == 1;
@@ -241,7 +241,7 @@ fn the_unit_misses_the_needed_pairs_and_no_other() {
             for quality in [HELD, INVALID] {
                 brought.readings[part].quality = quality;
                 let is_needed = needed.iter().any(|pair| PAIRS[*pair].parts.contains(&part));
-                assert_eq!(low(&brought), !is_needed, "XB5 {current}, {}", READINGS[part].name);
+                assert_eq!(low(&brought), !is_needed, "XB5 {current}, {}", reading.name);
             }
         }
     }
