@@ -1,8 +1,7 @@
 // `replay SHEET RECORDING`: the answer to the sheet, and then a line of outputs for each recorded tick.
 //
-// `data/` was made by the second program, `reference`: the sheet of seed 164 with slot 13 set to 0 and with R and X of 0 behind
-// it, and the recordings of seeds 164 and 324, of 1,300 and 500 ticks, one after the other, with Invalid pairs. `stdout` is what
-// that program prints of them.
+// `data/` was made by the second program, `reference`: the sheet of seed 1003, which compensates along R and X, and the recordings
+// of seeds 1003 and 184, of 1,300 and 500 ticks, one after the other. `stdout` is what that program prints of them.
 mod failing;
 mod reading;
 mod running;

@@ -1,5 +1,5 @@
 -- The columns that the code holds the table in: what its own functions say to each other, and no promise to a caller.
-use Prim.Native.Nat.{ℕ, zero, suc, _*_, _/_}
+use Prim.Native.Nat.{ℕ, zero, suc, _*_, _/_, _≤_}
 use mathlib.Core.List.{List, [], _∷_}
 use lib.ListN.{getD, set}
 use Rattle.slots.specs.Slots.{slots, iSet1, iSet2, iSet3, resistance, reactance}
@@ -19,10 +19,15 @@ highColumn = columnFrom (λ r. r .high) 0 slots
 unfoldable pub stepColumn : List ℕ
 stepColumn = columnFrom (λ r. r .step) 0 slots
 
--- a column with its current rows, 25 to 27, times k
+-- the rows that are scaled are small enough for their products
+abbrev pub Scalable : List ℕ → Type 0
+Scalable l =
+    (getD l iSet1 0 ≤ 40000) × (getD l iSet2 0 ≤ 40000) × (getD l iSet3 0 ≤ 40000) × (getD l resistance 0 ≤ 80000) × (getD l reactance 0 ≤ 80000)
+
+-- a column with its current rows times k
 abbrev currentsBy : ℕ → List ℕ → List ℕ
 currentsBy k l = set (set (set l iSet1 (getD l iSet1 0 * k)) iSet2 (getD l iSet2 0 * k)) iSet3 (getD l iSet3 0 * k)
 
--- and with its impedance rows, 64 and 65, times 5 ÷ k
+-- and with its impedance rows times 5 ÷ k
 unfoldable pub timesK : ℕ → List ℕ → List ℕ
 timesK k l = set (set (currentsBy k l) resistance (getD l resistance 0 * (5 / k))) reactance (getD l reactance 0 * (5 / k))

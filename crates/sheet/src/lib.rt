@@ -22,9 +22,9 @@ ghost use mathlib.Core.Logic.{_↔_};
 ghost use Prim.Native.Nat.{_≤_};
 ghost use mathlib.Core.Bool.{true, _||_};
 ghost use lib.Dec.{eqb};
-ghost use lib.ListN.{length, getD};
+ghost use lib.ListN.{length};
 ghost use Rattle.sheet.specs.Table.{moduleFactor, takenBy};
-ghost use Rattle.sheet.specs.Columns.{timesK};
+ghost use Rattle.sheet.specs.Columns.{Scalable, timesK};
 ghost use Rattle.sheet.specs.Sheet.{numberOf, slotOf, isTaken, firstOutOfRange, judgeOf, passesOf, sheetWith, sheetOf, replyOf, returnedOf};
 ghost use Rattle.slots.specs.Slots.{slots};
 ghost use Rattle.sheet.specs.Settings.{Settings};
@@ -54,7 +54,7 @@ pub fn module_factor(s: &[u32; SLOTS]) -> u32
 
 // A column of the table with its current rows times k and its impedance rows times 5 / k.
 fn times_k(column: [u32; SLOTS], k: u32) -> [u32; SLOTS]
-    requires { ⌜ (1 ≤ k) × (k ≤ 5) × (getD column 25 0 ≤ 40000) × (getD column 26 0 ≤ 40000) × (getD column 27 0 ≤ 40000) × (getD column 64 0 ≤ 80000) × (getD column 65 0 ≤ 80000) ⌝ }
+    requires { ⌜ (1 ≤ k) × (k ≤ 5) × Scalable column ⌝ }
     ensures { λ r. ⌜ r ≡ timesK k column ⌝ }
 {
     let inverse = 5 / k;
