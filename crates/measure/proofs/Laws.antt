@@ -32,7 +32,7 @@ use Rattle.measure.specs.declared.Reading.the-variants.{Good, Held, Inva
 abbrev pub exponent : ℕ → ℕ
 exponent b = b % 0x8000_0000 / 0x80_0000
 
-abbrev units : ℕ → ℕ → ℕ
+abbrev pub units : ℕ → ℕ → ℕ
 units zero t = t * 2 ^ 0
 units (suc k) t = (0x80_0000 + t) * 2 ^ k
 
@@ -128,7 +128,7 @@ parts x fit h =
 
 -- ---- the range, as the code's two comparisons find it, with a number l that is n
 
-same-test : (a b : Bool) → (T a → T b) → (T b → T a) → a ≡ b
+pub same-test : (a b : Bool) → (T a → T b) → (T b → T a) → a ≡ b
 same-test true true p q = refl
 same-test true false p q = absurd (p tt)
 same-test false true p q = absurd (q tt)

@@ -1,3 +1,4 @@
 pub mod Facts
+pub mod Fronts
 pub mod Laws
 pub mod Qualities

@@ -1,3 +1,4 @@
 pub mod Exact
+pub mod Fronts
 pub mod Readings
 pub mod Stars

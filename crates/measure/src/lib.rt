@@ -5,6 +5,8 @@ ghost use lib.Dec.{T};
 ghost use Rattle.measure.specs.Exact.{inRange, thousandths};
 ghost use Rattle.measure.specs.Readings.{limitOf, convertedOf, goodOf, heldOf, measuredOf, AtMost};
 
+pub mod front;
+
 // What the module hands over: a number in V or A, fresh or held from before, or nothing.
 pub enum Reading {
     Good(f32),
@@ -94,14 +96,24 @@ fn as_held(a: Converted) -> Measured
     }
 }
 
-// What a reading counts as; its number is never above the channel's limit.
-pub fn measure(c: Channel, r: Reading) -> Measured
-    ensures each { λ m. ⌜ m ≡ measuredOf (limitOf c) r ⌝ }
-    ensures within { λ m. ⌜ AtMost (1000 * limitOf c) m ⌝ }
+// The second step: it alone sees the fraction.
+fn settle(c: Channel, r: Reading) -> Measured
+    ensures { λ m. ⌜ m ≡ measuredOf (limitOf c) r ⌝ }
 {
     match r {
         Reading::Good(x) => as_good(convert(c, x)),
         Reading::Held(x) => as_held(convert(c, x)),
         Reading::Invalid => Measured::Missing,
     }
+}
+
+// What a reading counts as; its number is never above the channel's limit.
+pub fn measure(c: Channel, r: Reading) -> Measured
+    ensures each { λ m. ⌜ m ≡ measuredOf (limitOf c) r ⌝ }
+    ensures within { λ m. ⌜ AtMost (1000 * limitOf c) m ⌝ }
+{
+    if front::passes(c, front::front_of(r)) {
+        return settle(c, r);
+    }
+    Measured::Missing
 }

@@ -7,9 +7,9 @@ use native.Mathlib.Nat.{le-trans, le-of-eq, mul-assoc, mul-le-mul-left, div-eq-o
 use native.Mathlib.Omega.{arith}
 use borrow.Author.Needs.{needs}
 use borrow.Author.Tests.{lt-ltb, leb-true, ltb-true, ltb-false}
-use lib.Dec.{leb}
+use lib.Dec.{T, leb}
 use lib.IntN.{ℤ, pos, negsuc, negℤ, natAbs, _-ℤ_}
-use lib.Ieee.{Float, nan, inf, fin, binary32, up, down, ofBits, lt, neg}
+use lib.Ieee.{Float, nan, inf, fin, binary32, up, down, fits as holds, neg}
 use lib.Ieee.Fits.{down-pos}
 use lib.Ieee.Scale.{finite}
 use lib.Ieee.Positive.{num, den, den-pos}
@@ -20,11 +20,14 @@ use Rattle.common.proofs.Joined.{and-right}
 use Rattle.common.proofs.Signed.{Stands, literal, small, fits, read, back, cast, sub}
 use Rattle.measure.specs.Exact.{counts, inRange, nearest, thousandths}
 use Rattle.measure.proofs.Laws.{nearest-le}
+use Rattle.measure.proofs.Fronts.{minus-nan, minus-inf, minus-fin}
+use Rattle.measure.specs.Fronts.{minusOf, numberFront, frontOf}
 use Rattle.measure.specs.Readings as readings
 use Rattle.measure.specs.Readings.{goodOf, measuredOf, AtMost}
 use Rattle.measure.specs.declared.Measured.{Measured}
 use Rattle.measure.specs.declared.Measured.the-variants as measured
 use Rattle.measure.specs.declared.Reading.{Reading}
+use Rattle.measure.specs.declared.front.Front.{Front}
 use Rattle.measure.specs.declared.Reading.the-variants.{Good, Held, Invalid}
 use Rattle.phasor.specs.Pairs.{partInRange, withSign, minus, signedThousandths, ifInRange, partOf, signedOf, freshBy, freshOf, pairedOf, countedOf, vectorOf, Within}
 use Rattle.phasor.specs.declared.Fresh.{Fresh}
@@ -90,39 +93,37 @@ unfolding signedOf goodOf
 signed-counted s true n = refl
 signed-counted s false n = refl
 
--- the magnitude of 0 counts as 0, whatever its sign
-nothing : (d : ℕ) → 0 < d → nearest (1000 * 0) d ≡ 0
-nothing d h = div-eq-of-lt (omega arith)
-
-no-sign : withSign false 0 ≡ withSign true 0
-unfolding withSign
-no-sign = refl
+-- the sign of a bit pattern is the number's
+sign-is : (x : Float) → T (holds binary32 x) → minusOf x ≡ minus x
+sign-is nan fit = minus-nan
+sign-is (inf s) fit = minus-inf s
+sign-is (fin s m e) fit = minus-fin s m e fit
 
 module _ (limit : ℕ) where
-  turned : (x : Float) → lt x (ofBits binary32 0) ≡ true → signedOf true (measuredOf limit (Good (neg x))) ≡ partOf limit x
-  unfolding lt ofBits neg measuredOf partOf
+  turned : (x : Float) → minus x ≡ true → signedOf true (measuredOf limit (Good (neg x))) ≡ partOf limit x
+  unfolding neg measuredOf partOf
   turned nan h = absurd (true≢false (sym h))
-  turned (inf true) h = signed-counted true false 0
-  turned (inf false) h = absurd (true≢false (sym h))
-  turned (fin false m e) h = absurd (let z : m * up e * 1 < 0 * 1 * down e = ltb-true _ _ h in omega arith)
+  turned (inf s) h = signed-counted true false 0
   turned (fin true m e) h = signed-counted true (leb (m * up e) (limit * down e)) (thousandths (fin false m e))
+  turned (fin false m e) h = absurd (true≢false (sym h))
 
-  straight : (x : Float) → lt x (ofBits binary32 0) ≡ false → signedOf false (measuredOf limit (Good x)) ≡ partOf limit x
-  unfolding lt ofBits measuredOf partOf
+  straight : (x : Float) → minus x ≡ false → signedOf false (measuredOf limit (Good x)) ≡ partOf limit x
+  unfolding measuredOf partOf
   straight nan h = signed-counted false false 0
-  straight (inf true) h = absurd (true≢false h)
-  straight (inf false) h = signed-counted false false 0
+  straight (inf s) h = signed-counted false false 0
+  straight (fin true m e) h = absurd (true≢false h)
   straight (fin false m e) h = signed-counted false (leb (m * up e) (limit * down e)) (thousandths (fin false m e))
-  straight (fin true m e) h =
-      let z : m * up e ≡ 0 = (let l : m * up e * 1 + 0 * 1 * down e ≤ 0 = ltb-false _ _ h in omega arith) in
-      rw (z, nothing (down e) (down-pos e)) (signed-counted false (leb 0 (limit * down e)) 0 ∙ ap (ifInRange (leb 0 (limit * down e))) no-sign)
 
-  module _ (r : Part) (x : Float) (m : Measured) where
-    pub part-below : lt x (ofBits binary32 0) ≡ true → m ≡ measuredOf limit (Good (neg x)) → r ≡ signedOf true m → r ≡ partOf limit x
-    part-below h e q = q ∙ ap (signedOf true) e ∙ turned x h
+  module _ (r : Part) (x : Float) (f : Front) (m : Measured) (fit : T (holds binary32 x)) (front : f ≡ frontOf (Good x)) where
+    told : f .minus ≡ minus x
+    unfolding frontOf numberFront
+    told = ap (λ (g : Front). g .minus) front ∙ sign-is x fit
 
-    pub part-above : lt x (ofBits binary32 0) ≡ false → m ≡ measuredOf limit (Good x) → r ≡ signedOf false m → r ≡ partOf limit x
-    part-above h e q = q ∙ ap (signedOf false) e ∙ straight x h
+    pub part-below : f .minus ≡ true → m ≡ measuredOf limit (Good (neg x)) → r ≡ signedOf true m → r ≡ partOf limit x
+    part-below h e q = q ∙ ap (signedOf true) e ∙ turned x (sym told ∙ h)
+
+    pub part-above : f .minus ≡ false → m ≡ measuredOf limit (Good x) → r ≡ signedOf false m → r ≡ partOf limit x
+    part-above h e q = q ∙ ap (signedOf false) e ∙ straight x (sym told ∙ h)
 
 pub ruleset parts = (part-below, part-above, needs)
 

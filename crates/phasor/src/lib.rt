@@ -8,6 +8,7 @@ ghost use Rattle.phasor.specs.Pairs.{freshOf, withSign, partOf, signedOf
 use measure::Channel;
 use measure::Measured;
 use measure::Reading;
+use measure::front;
 
 // What the module hands over: the two parts, in V or A.
 pub struct Phasor {
@@ -80,11 +81,12 @@ fn signed(negative: bool, m: Measured) -> Part
     }
 }
 
-// One part: what its magnitude counts as, with the sign kept. A NaN is not below 0, and is missing as it stands.
+// One part: what its magnitude counts as, with the sign kept. The sign is taken off before the first step, so that it is no cause.
 fn measure_part(c: Channel, x: f32) -> Part
     ensures { λ r. ⌜ r ≡ partOf (limitOf c) x ⌝ }
 {
-    if x < 0.0 {
+    let f = front::front_of(Reading::Good(x));
+    if f.minus {
         return signed(true, measure::measure(c, Reading::Good(-x)));
     }
     signed(false, measure::measure(c, Reading::Good(x)))

@@ -1,50 +1,24 @@
-use Rattle.measure.proofs.Qualities.{qualities}
 use Rattle.measure.proofs.Laws.{measured}
+use Rattle.measure.proofs.Fronts.{stopped}
 use borrow.Author.Needs.{needs}
 use Rattle.measure.proofs.measure.Statement.{statement}
 use Rattle.measure.proofs.measure.Tie as tie
 
-enum-known-r : tie.Need-enum-known-r
-enum-known-r c = search needs
+front-of-requires : tie.Need-front-of-requires
+front-of-requires c κs = search needs
 
-convert-requires : tie.Need-convert-requires
-convert-requires c κs = search needs
+passes-requires : tie.Need-passes-requires
+passes-requires c κs = search needs
 
-as-good-requires : tie.Need-as-good-requires
-as-good-requires c κs = search needs
-
-enum-known-r-2 : tie.Need-enum-known-r-2
-enum-known-r-2 c = search needs
-
-convert-requires-2 : tie.Need-convert-requires-2
-convert-requires-2 c κs = search needs
-
-as-held-requires : tie.Need-as-held-requires
-as-held-requires c κs = search needs
-
-enum-told : tie.Need-enum-told
-enum-told c = search needs
+settle-requires : tie.Need-settle-requires
+settle-requires c κs = search needs
 
 returns : tie.Need-returns
-returns c = measured _ _ (search qualities)
+returns c = measured _ _ (search needs)
 
 returns-2 : tie.Need-returns-2
-returns-2 c = measured _ _ (search qualities)
-
-returns-3 : tie.Need-returns-3
-returns-3 c = measured _ _ (search qualities)
+returns-2 c = measured _ _ (search stopped)
 
 pub measure-spec : {M : Type 1} → statement M
 measure-spec =
-    tie.close
-    (tie.spec
-    enum-known-r
-    convert-requires
-    as-good-requires
-    enum-known-r-2
-    convert-requires-2
-    as-held-requires
-    enum-told
-    returns
-    returns-2
-    returns-3)
+    tie.close (tie.spec front-of-requires passes-requires settle-requires returns returns-2)

@@ -3,6 +3,9 @@ use borrow.Author.Needs.{needs}
 use Rattle.phasor.proofs.measure_part.Statement.{statement}
 use Rattle.phasor.proofs.measure_part.Tie as tie
 
+front-of-requires : tie.Need-front-of-requires
+front-of-requires c κs = search needs
+
 measure-requires : tie.Need-measure-requires
 measure-requires c κs = search needs
 
@@ -25,6 +28,7 @@ pub measure-part-spec : {M : Type 1} → statement M
 measure-part-spec =
     tie.close
     (tie.spec
+    front-of-requires
     measure-requires
     signed-requires
     returns
