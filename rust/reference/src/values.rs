@@ -2,10 +2,11 @@
 
 use std::io::{self, Write};
 
+use crate::front::{Front, Quality, Sign};
 use crate::input::{Input, READINGS};
 use crate::line;
 use crate::phasor::Phasor;
-use crate::reading::{signed_thousandths, thousandths, Reading};
+use crate::reading::{amp_limit, signed_thousandths, thousandths, Reading, VOLT_LIMIT};
 use crate::record::Record;
 use crate::sheet::{check, slot, Settings, SLOTS};
 use crate::tap;
@@ -204,6 +205,7 @@ const MODULUS: u64 = 1_000_003;
 pub fn print(out: &mut impl Write) -> io::Result<()> {
     print_readings(out)?;
     print_generated_readings(out)?;
+    print_fronts(out)?;
     print_parts(out)?;
     print_generated_parts(out)?;
     print_roots(out)?;
@@ -299,6 +301,29 @@ fn answer(bits: u32, limit: u32) -> Option<u32> {
 
 fn is_nan(bits: u32) -> bool {
     bits % (1 << 31) > 0x7F80_0000
+}
+
+/// The qualities and signs of the `front` lines, in their order.
+const QUALITIES: [(Quality, &str); 3] = [(Quality::Good, "good"), (Quality::Held, "held"), (Quality::Invalid, "invalid")];
+const SIGNS: [(Sign, &str); 2] = [(Sign::Plus, "plus"), (Sign::Minus, "minus")];
+
+/// What passes the first step of a voltage, a 1 A and a 5 A current.
+fn print_fronts(out: &mut impl Write) -> io::Result<()> {
+    for limit in [VOLT_LIMIT, amp_limit(1), amp_limit(5)] {
+        for (quality, quality_word) in QUALITIES {
+            for (sign, sign_word) in SIGNS {
+                let answers = front_answers(limit, quality, sign);
+                writeln!(out, "front {limit} {quality_word} {sign_word} {answers}")?;
+            }
+        }
+    }
+    Ok(())
+}
+
+/// For each exponent 1 where the number passes, 0 where it is missing.
+fn front_answers(limit: u32, quality: Quality, sign: Sign) -> String {
+    let passes = |exponent| Front { quality, sign, exponent }.passes(limit);
+    (0..=255).map(|exponent| if passes(exponent) { '1' } else { '0' }).collect()
 }
 
 fn print_parts(out: &mut impl Write) -> io::Result<()> {
