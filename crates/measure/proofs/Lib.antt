@@ -1,4 +1,5 @@
 pub mod Facts
+pub mod FirstStep
 pub mod Fronts
 pub mod Laws
 pub mod Qualities

@@ -1,4 +1,5 @@
--- What comes before a number's fraction: quality, sign and exponent (02, ticket 4). Definitions only.
+-- What comes before a number's fraction (02, ticket 4): "The module hands over the exponent before the fraction. The conversion of one
+-- reading shall judge quality, sign and exponent first". Definitions only.
 use Prim.Native.Nat.{ℕ, _/_, _%_, _<_}
 use mathlib.Core.Path.{_≡_}
 use mathlib.Core.Bool.{Bool, true, false}
@@ -27,7 +28,7 @@ handed quality.Invalid x = Invalid
 unfoldable pub readingOf : Front → ℕ → Reading
 readingOf f t = handed (f .quality) (ofFields binary32 (f .minus) (f .exponent) t)
 
--- "answers missing exactly where every fraction would"
+-- "in a step that gets no fraction and answers missing exactly where every fraction would"
 unfoldable pub EveryFractionMissing : ℕ → Front → Type 0
 EveryFractionMissing limit f = (t : ℕ) → t < fractions → measuredOf limit (readingOf f t) ≡ measured.Missing
 

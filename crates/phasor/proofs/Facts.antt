@@ -8,11 +8,11 @@ use Prim.Native.Nat.{ℕ, zero, suc, _+_, _<_}
 use lib.Dec.{eqb}
 use lib.IntN.{ℤ}
 use lib.Ieee.{Float, nan, inf, binary32, odd, ofFields}
+use Rattle.measure.proofs.FirstStep.{is-missing}
 use Rattle.measure.specs.Exact.{inRange, thousandths}
 use Rattle.measure.specs.Readings as readings
 use Rattle.measure.specs.Readings.{goodOf, measuredOf}
 use Rattle.measure.specs.Fronts.{fractions, readingOf, EveryFractionMissing}
-use Rattle.measure.specs.declared.Measured.{Measured}
 use Rattle.measure.specs.declared.Measured.the-variants as measured
 use Rattle.measure.specs.declared.Reading.the-variants.{Good}
 use Rattle.measure.specs.declared.front.Front.{Front}
@@ -39,11 +39,6 @@ magnitude-range l s (suc x) t = go (eqb (suc x) 255) (eqb t 0)
     go true true = refl
     go true false = refl
     go false b = odd-range l 24 s (0x80_0000 + t) x 149
-
-is-missing : Measured → Bool
-is-missing (measured.Good n) = false
-is-missing (measured.Held n) = false
-is-missing measured.Missing = true
 
 is-out : Part → Bool
 is-out OutOfRange = true

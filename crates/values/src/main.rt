@@ -1,7 +1,8 @@
-// Worked values of the readings, of pairs, of roots and the line's drop, of the setting sheet and of the tap. `stdout` has what the second program, `reference/`, prints of the
+// Worked values of the readings and of their first step, of pairs, of roots and the line's drop, of the setting sheet and of the tap. `stdout` has what the second program, `reference/`, prints of the
 // same values, so a run that differs shows that one of the two programs is wrong.
 mod along;
 mod bcd;
+mod fronts;
 mod parts;
 mod print;
 mod readings;
@@ -12,6 +13,7 @@ mod sum;
 fn main() {
     readings::print_listed();
     readings::print_generated();
+    fronts::print_listed();
     parts::print_listed();
     parts::print_generated();
     roots::print_listed();

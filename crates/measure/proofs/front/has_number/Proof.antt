@@ -1,4 +1,4 @@
-use Rattle.measure.proofs.Fronts.{numbers}
+use Rattle.measure.proofs.FirstStep.{numbers}
 use borrow.Author.Needs.{needs}
 use Rattle.measure.proofs.front.has_number.Statement.{statement}
 use Rattle.measure.proofs.front.has_number.Tie as tie

@@ -1,4 +1,4 @@
-use Rattle.measure.proofs.Fronts.{first-step}
+use Rattle.measure.proofs.FirstStep.{first-step}
 use borrow.Author.Needs.{needs}
 use Rattle.measure.proofs.front.passes.Statement.{statement}
 use Rattle.measure.proofs.front.passes.Tie as tie

@@ -1,4 +1,4 @@
-use Rattle.measure.proofs.Fronts.{tops}
+use Rattle.measure.proofs.FirstStep.{tops}
 use borrow.Author.Needs.{needs}
 use Rattle.measure.proofs.front.top_exponent.Statement.{statement}
 use Rattle.measure.proofs.front.top_exponent.Tie as tie
