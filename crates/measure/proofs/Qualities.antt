@@ -1,44 +1,79 @@
 -- The definitions that go by a reading's kind, as `search` follows them: `search qualities`.
 -- Assumes nothing.
-use mathlib.Core.Path.{_≡_}
+use mathlib.Core.Path.{_≡_, refl, ap, _∙_}
+use mathlib.Core.Bool.{Bool, true, false}
 use Prim.Native.Nat.{ℕ}
-use lib.Ieee.{Float}
+use lib.Ieee.{Float, binary32, ofBits}
 use borrow.Author.Needs.{needs}
-use Rattle.measure.specs.Readings.{convertedOf, goodOf, heldOf, measuredOf}
+use Rattle.measure.specs.Exact.{inRange, thousandths}
+use Rattle.measure.specs.Readings.{ifInRange, convertedOf, goodOf, heldOf, measuredOf}
+use Rattle.measure.specs.Fronts.{numberFront, frontOf, numberOf, withQuality, countedOf}
 use Rattle.measure.specs.declared.Converted.{Converted}
 use Rattle.measure.specs.declared.Converted.the-variants.{OutOfRange, Whole}
 use Rattle.measure.specs.declared.Measured.{Measured}
 use Rattle.measure.specs.declared.Measured.the-variants as measured
 use Rattle.measure.specs.declared.Reading.{Reading}
 use Rattle.measure.specs.declared.Reading.the-variants.{Good, Held, Invalid}
+use Rattle.measure.specs.declared.front.Front.{Front}
+use Rattle.measure.specs.declared.front.Quality.{Quality}
+use Rattle.measure.specs.declared.front.Quality.the-variants as quality
 
-module _ (m : Measured) where
-  pub good-none : (c : Converted) → c ≡ OutOfRange → m ≡ measured.Missing → m ≡ goodOf c
-  unfolding goodOf
-  good-none c p q = rw p q
+module _ (m : Measured) (q : Quality) (n : ℕ) where
+  pub with-good : q ≡ quality.Good → m ≡ measured.Good n → m ≡ withQuality q n
+  unfolding withQuality
+  with-good e is = rw e is
 
-  pub good-whole : (c : Converted) (n : ℕ) → c ≡ Whole n → m ≡ measured.Good n → m ≡ goodOf c
-  unfolding goodOf
-  good-whole c n p q = rw p q
+  pub with-held : q ≡ quality.Held → m ≡ measured.Held n → m ≡ withQuality q n
+  unfolding withQuality
+  with-held e is = rw e is
 
-  pub held-none : (c : Converted) → c ≡ OutOfRange → m ≡ measured.Missing → m ≡ heldOf c
-  unfolding heldOf
-  held-none c p q = rw p q
+  pub with-none : q ≡ quality.Invalid → m ≡ measured.Missing → m ≡ withQuality q n
+  unfolding withQuality
+  with-none e is = rw e is
 
-  pub held-whole : (c : Converted) (n : ℕ) → c ≡ Whole n → m ≡ measured.Held n → m ≡ heldOf c
-  unfolding heldOf
-  held-whole c n p q = rw p q
+module _ (m : Measured) (q : Quality) (a : Converted) where
+  pub counted-out : a ≡ OutOfRange → m ≡ measured.Missing → m ≡ countedOf q a
+  unfolding countedOf
+  counted-out e is = rw e is
 
-  pub measured-good : (l : ℕ) (r : Reading) (x : Float) (c : Converted) → r ≡ Good x → c ≡ convertedOf l x → m ≡ goodOf c → m ≡ measuredOf l r
-  unfolding measuredOf
-  measured-good l r x c p e q = rw (p, ← e) q
+  pub counted-whole : (n : ℕ) → a ≡ Whole n → m ≡ withQuality q n → m ≡ countedOf q a
+  unfolding countedOf
+  counted-whole n e is = rw e is
 
-  pub measured-held : (l : ℕ) (r : Reading) (x : Float) (c : Converted) → r ≡ Held x → c ≡ convertedOf l x → m ≡ heldOf c → m ≡ measuredOf l r
-  unfolding measuredOf
-  measured-held l r x c p e q = rw (p, ← e) q
+module _ (y : Float) (r : Reading) where
+  pub number-of-good : (x : Float) → r ≡ Good x → y ≡ x → y ≡ numberOf r
+  unfolding numberOf
+  number-of-good x e is = rw e is
 
-  pub measured-none : (l : ℕ) (r : Reading) → r ≡ Invalid → m ≡ measured.Missing → m ≡ measuredOf l r
-  unfolding measuredOf
-  measured-none l r p q = rw p q
+  pub number-of-held : (x : Float) → r ≡ Held x → y ≡ x → y ≡ numberOf r
+  unfolding numberOf
+  number-of-held x e is = rw e is
 
-pub ruleset qualities = (good-none, good-whole, held-none, held-whole, measured-good, measured-held, measured-none, needs)
+  pub number-of-none : r ≡ Invalid → y ≡ ofBits binary32 0 → y ≡ numberOf r
+  unfolding numberOf
+  number-of-none e is = rw e is
+
+pub ruleset qualities = (with-good, with-held, with-none, counted-out, counted-whole, number-of-good, number-of-held, number-of-none, needs)
+
+-- a reading is its number, counted with its quality
+whole-reading : (l : ℕ) (r : Reading) → countedOf (frontOf r .quality) (convertedOf l (numberOf r)) ≡ measuredOf l r
+unfolding frontOf numberFront numberOf countedOf withQuality measuredOf goodOf heldOf
+whole-reading l (Good x) = go (inRange l x) (thousandths x)
+  where
+    go : (b : Bool) (n : ℕ) → countedOf quality.Good (ifInRange b n) ≡ goodOf (ifInRange b n)
+    go true n = refl
+    go false n = refl
+whole-reading l (Held x) = go (inRange l x) (thousandths x)
+  where
+    go : (b : Bool) (n : ℕ) → countedOf quality.Held (ifInRange b n) ≡ heldOf (ifInRange b n)
+    go true n = refl
+    go false n = refl
+whole-reading l Invalid = go (inRange l (ofBits binary32 0)) (thousandths (ofBits binary32 0))
+  where
+    go : (b : Bool) (n : ℕ) → countedOf quality.Invalid (ifInRange b n) ≡ measured.Missing
+    go true n = refl
+    go false n = refl
+
+pub settled : (l : ℕ) (r : Reading) (f : Front) (q : Quality) (x : Float) (a : Converted) (m : Measured) → f ≡ frontOf r → q ≡ f .quality → x ≡ numberOf r → a ≡ convertedOf l x → m ≡ countedOf q a → m ≡ measuredOf l r
+settled l r f q x a m front kind number converted is =
+    is ∙ rw (kind, front, converted, number) (whole-reading l r)

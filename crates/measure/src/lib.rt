@@ -3,7 +3,9 @@ ghost use mathlib.Core.Path.{_≡_};
 ghost use Prim.Native.Nat.{_*_};
 ghost use lib.Dec.{T};
 ghost use Rattle.measure.specs.Exact.{inRange, thousandths};
-ghost use Rattle.measure.specs.Readings.{limitOf, convertedOf, goodOf, heldOf, measuredOf, AtMost};
+ghost use Rattle.measure.specs.Readings.{limitOf, convertedOf, measuredOf, AtMost};
+ghost use Rattle.measure.specs.Fronts.{numberOf, withQuality, countedOf};
+use crate::front::Quality;
 
 pub mod front;
 
@@ -29,7 +31,7 @@ pub enum Channel {
 }
 
 // A number of thousandths, or none where the reading's number is out of range.
-enum Converted {
+pub enum Converted {
     OutOfRange,
     Whole(u32),
 }
@@ -62,9 +64,9 @@ fn whole_thousandths(x: f32) -> u32
     ((halves + 1) / 2) as u32
 }
 
-// Two comparisons decide the range: a NaN fails the first, and so does -infinity; -0.0 passes it and counts as 0; +infinity
-// and the largest float fail the second.
-fn convert(c: Channel, x: f32) -> Converted
+// The second step, which alone sees the fraction. Two comparisons decide the range: a NaN fails the first, and so does -infinity;
+// -0.0 passes it and counts as 0; +infinity and the largest float fail the second.
+pub fn convert(c: Channel, x: f32) -> Converted
     ensures { λ r. ⌜ r ≡ convertedOf (limitOf c) x ⌝ }
 {
     let top = limit(c);
@@ -76,44 +78,47 @@ fn convert(c: Channel, x: f32) -> Converted
     Converted::OutOfRange
 }
 
-// The number of a Good reading.
-fn as_good(a: Converted) -> Measured
-    ensures { λ r. ⌜ r ≡ goodOf a ⌝ }
+// A counted number with the quality that it was handed over with.
+fn with_quality(quality: Quality, n: u32) -> Measured
+    ensures { λ r. ⌜ r ≡ withQuality quality n ⌝ }
 {
-    match a {
-        Converted::OutOfRange => Measured::Missing,
-        Converted::Whole(n) => Measured::Good(n),
+    match quality {
+        Quality::Good => Measured::Good(n),
+        Quality::Held => Measured::Held(n),
+        Quality::Invalid => Measured::Missing,
     }
 }
 
-// The number of a Held reading.
-fn as_held(a: Converted) -> Measured
-    ensures { λ r. ⌜ r ≡ heldOf a ⌝ }
+// What a converted number counts as.
+fn counted(quality: Quality, a: Converted) -> Measured
+    ensures { λ r. ⌜ r ≡ countedOf quality a ⌝ }
 {
     match a {
         Converted::OutOfRange => Measured::Missing,
-        Converted::Whole(n) => Measured::Held(n),
+        Converted::Whole(n) => with_quality(quality, n),
     }
 }
 
-// The second step: it alone sees the fraction.
-fn settle(c: Channel, r: Reading) -> Measured
-    ensures { λ m. ⌜ m ≡ measuredOf (limitOf c) r ⌝ }
+// The number of a reading; 0 where it has none.
+fn number_of(r: Reading) -> f32
+    ensures { λ x. ⌜ x ≡ numberOf r ⌝ }
 {
     match r {
-        Reading::Good(x) => as_good(convert(c, x)),
-        Reading::Held(x) => as_held(convert(c, x)),
-        Reading::Invalid => Measured::Missing,
+        Reading::Good(x) => x,
+        Reading::Held(x) => x,
+        Reading::Invalid => 0.0,
     }
 }
 
-// What a reading counts as; its number is never above the channel's limit.
+// What a reading counts as; its number is never above the channel's limit. Its front comes first, and its fraction only if that passes.
 pub fn measure(c: Channel, r: Reading) -> Measured
     ensures each { λ m. ⌜ m ≡ measuredOf (limitOf c) r ⌝ }
     ensures within { λ m. ⌜ AtMost (1000 * limitOf c) m ⌝ }
 {
-    if front::passes(c, front::front_of(r)) {
-        return settle(c, r);
+    let f = front::front_of(r);
+    if front::passes(c, f) {
+        let quality = f.quality;
+        return counted(quality, convert(c, number_of(r)));
     }
     Measured::Missing
 }

@@ -7,9 +7,8 @@ use native.Mathlib.Nat.{le-trans, le-of-eq, mul-assoc, mul-le-mul-left, div-eq-o
 use native.Mathlib.Omega.{arith}
 use borrow.Author.Needs.{needs}
 use borrow.Author.Tests.{lt-ltb, leb-true, ltb-true, ltb-false}
-use lib.Dec.{T, leb}
 use lib.IntN.{ℤ, pos, negsuc, negℤ, natAbs, _-ℤ_}
-use lib.Ieee.{Float, nan, inf, fin, binary32, up, down, fits as holds, neg}
+use lib.Ieee.{Float}
 use lib.Ieee.Fits.{down-pos}
 use lib.Ieee.Scale.{finite}
 use lib.Ieee.Positive.{num, den, den-pos}
@@ -18,18 +17,13 @@ use mir.Val.{SFits, toZ}
 use mir.Facts.{toZ-ofZ}
 use Rattle.common.proofs.Joined.{and-right}
 use Rattle.common.proofs.Signed.{Stands, literal, small, fits, read, back, cast, sub}
-use Rattle.measure.specs.Exact.{counts, inRange, nearest, thousandths}
+use Rattle.measure.specs.Exact.{thousandths}
 use Rattle.measure.proofs.Laws.{nearest-le}
-use Rattle.measure.proofs.Fronts.{minus-nan, minus-inf, minus-fin}
-use Rattle.measure.specs.Fronts.{minusOf, numberFront, frontOf}
-use Rattle.measure.specs.Readings as readings
-use Rattle.measure.specs.Readings.{goodOf, measuredOf, AtMost}
-use Rattle.measure.specs.declared.Measured.{Measured}
-use Rattle.measure.specs.declared.Measured.the-variants as measured
-use Rattle.measure.specs.declared.Reading.{Reading}
-use Rattle.measure.specs.declared.front.Front.{Front}
+use Rattle.measure.specs.declared.Converted.{Converted}
+use Rattle.measure.specs.declared.Converted.the-variants as converted
 use Rattle.measure.specs.declared.Reading.the-variants.{Good, Held, Invalid}
-use Rattle.phasor.specs.Pairs.{partInRange, withSign, minus, signedThousandths, ifInRange, partOf, signedOf, freshBy, freshOf, pairedOf, countedOf, vectorOf, Within}
+use Rattle.phasor.specs.Pairs.{partInRange, withSign, minus, signedThousandths, ifInRange, partOf, freshBy, freshOf, pairedOf, countedOf, vectorOf, Within}
+use Rattle.phasor.specs.Parts.{signedOf}
 use Rattle.phasor.specs.declared.Fresh.{Fresh}
 use Rattle.phasor.specs.declared.Fresh.the-variants as fresh
 use Rattle.phasor.specs.declared.Numbers.{Numbers}
@@ -71,61 +65,16 @@ module _ (n : ℕ) (h : n < 2 ^ 32) where
 
 pub ruleset signs = (minus-fits, minus-is, minus-small, plus-is, plus-small, needs)
 
-module _ (r : Part) (s : Bool) (m : Measured) where
-  pub signed-good : (n : ℕ) (z : ℤ) → m ≡ measured.Good n → z ≡ withSign s n → natAbs z ≤ 2 ^ 32 → r ≡ Whole (read z) → r ≡ signedOf s m
+module _ (r : Part) (s : Bool) (a : Converted) where
+  pub signed-whole : (n : ℕ) (z : ℤ) → a ≡ converted.Whole n → z ≡ withSign s n → natAbs z ≤ 2 ^ 32 → r ≡ Whole (read z) → r ≡ signedOf s a
   unfolding signedOf
-  signed-good n z p e l q = let here : read z ≡ z = back (record { is = refl; within = l }) tt .is in rw p (q ∙ ap Whole (here ∙ e))
+  signed-whole n z p e l q = let here : read z ≡ z = back (record { is = refl; within = l }) tt .is in rw p (q ∙ ap Whole (here ∙ e))
 
-  pub signed-held : (n : ℕ) → m ≡ measured.Held n → r ≡ OutOfRange → r ≡ signedOf s m
+  pub signed-out : a ≡ converted.OutOfRange → r ≡ OutOfRange → r ≡ signedOf s a
   unfolding signedOf
-  signed-held n p q = rw p q
+  signed-out p q = rw p q
 
-  pub signed-missing : m ≡ measured.Missing → r ≡ OutOfRange → r ≡ signedOf s m
-  unfolding signedOf
-  signed-missing p q = rw p q
-
-pub ruleset signing = (signed-good, signed-held, signed-missing, needs)
-
--- ---- a part by what its magnitude counts as
-
-signed-counted : (s b : Bool) (n : ℕ) → signedOf s (goodOf (readings.ifInRange b n)) ≡ ifInRange b (withSign s n)
-unfolding signedOf goodOf
-signed-counted s true n = refl
-signed-counted s false n = refl
-
--- the sign of a bit pattern is the number's
-sign-is : (x : Float) → T (holds binary32 x) → minusOf x ≡ minus x
-sign-is nan fit = minus-nan
-sign-is (inf s) fit = minus-inf s
-sign-is (fin s m e) fit = minus-fin s m e fit
-
-module _ (limit : ℕ) where
-  turned : (x : Float) → minus x ≡ true → signedOf true (measuredOf limit (Good (neg x))) ≡ partOf limit x
-  unfolding neg measuredOf partOf
-  turned nan h = absurd (true≢false (sym h))
-  turned (inf s) h = signed-counted true false 0
-  turned (fin true m e) h = signed-counted true (leb (m * up e) (limit * down e)) (thousandths (fin false m e))
-  turned (fin false m e) h = absurd (true≢false (sym h))
-
-  straight : (x : Float) → minus x ≡ false → signedOf false (measuredOf limit (Good x)) ≡ partOf limit x
-  unfolding measuredOf partOf
-  straight nan h = signed-counted false false 0
-  straight (inf s) h = signed-counted false false 0
-  straight (fin true m e) h = absurd (true≢false h)
-  straight (fin false m e) h = signed-counted false (leb (m * up e) (limit * down e)) (thousandths (fin false m e))
-
-  module _ (r : Part) (x : Float) (f : Front) (m : Measured) (fit : T (holds binary32 x)) (front : f ≡ frontOf (Good x)) where
-    told : f .minus ≡ minus x
-    unfolding frontOf numberFront
-    told = ap (λ (g : Front). g .minus) front ∙ sign-is x fit
-
-    pub part-below : f .minus ≡ true → m ≡ measuredOf limit (Good (neg x)) → r ≡ signedOf true m → r ≡ partOf limit x
-    part-below h e q = q ∙ ap (signedOf true) e ∙ turned x (sym told ∙ h)
-
-    pub part-above : f .minus ≡ false → m ≡ measuredOf limit (Good x) → r ≡ signedOf false m → r ≡ partOf limit x
-    part-above h e q = q ∙ ap (signedOf false) e ∙ straight x (sym told ∙ h)
-
-pub ruleset parts = (part-below, part-above, needs)
+pub ruleset signing = (signed-whole, signed-out, needs)
 
 -- ---- pairs
 

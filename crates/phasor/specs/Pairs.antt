@@ -6,8 +6,6 @@ use lib.IntN.{ℤ, pos, negℤ, natAbs}
 use lib.Ieee.{Float, nan, inf, fin}
 use lib.Ieee.Positive.{num, den}
 use lib.Ieee.Scale.{finite}
-use Rattle.measure.specs.declared.Measured.{Measured}
-use Rattle.measure.specs.declared.Measured.the-variants as measured
 use Rattle.measure.specs.declared.Reading.{Reading}
 use Rattle.measure.specs.declared.Reading.the-variants.{Good, Held, Invalid}
 use Rattle.measure.specs.Exact.{thousandths}
@@ -43,12 +41,6 @@ ifInRange false z = OutOfRange
 
 unfoldable pub partOf : ℕ → Float → Part
 partOf limit x = ifInRange (partInRange limit x) (signedThousandths x)
-
--- a measured magnitude with a sign
-unfoldable pub signedOf : Bool → Measured → Part
-signedOf s (measured.Good n) = Whole (withSign s n)
-signedOf s (measured.Held n) = OutOfRange
-signedOf s measured.Missing = OutOfRange
 
 -- the numbers of two readings that are both Good
 abbrev pub freshBy : Reading → Reading → Fresh

@@ -4,11 +4,14 @@ ghost use mathlib.Core.Path.{_≡_};
 ghost use Prim.Native.Nat.{_*_, _≤_, _^_};
 ghost use lib.IntN.{natAbs};
 ghost use Rattle.measure.specs.Readings.{limitOf};
-ghost use Rattle.phasor.specs.Pairs.{freshOf, withSign, partOf, signedOf, pairedOf, vectorOf, Within};
+ghost use Rattle.phasor.specs.Pairs.{freshOf, withSign, partOf, pairedOf, vectorOf, Within};
+ghost use Rattle.phasor.specs.Parts.{PartPasses, magnitudeOf, signedOf};
 use measure::Channel;
-use measure::Measured;
+use measure::Converted;
 use measure::Reading;
 use measure::front;
+use measure::front::Front;
+use measure::front::Quality;
 
 // What the module hands over: the two parts, in V or A.
 pub struct Phasor {
@@ -70,26 +73,46 @@ fn with_sign(negative: bool, n: u32) -> i64
     if negative { -(n as i64) } else { n as i64 }
 }
 
-// A measured magnitude with its sign.
-fn signed(negative: bool, m: Measured) -> Part
-    ensures { λ r. ⌜ r ≡ signedOf negative m ⌝ }
+// A converted magnitude with its sign.
+fn signed(negative: bool, a: Converted) -> Part
+    ensures { λ r. ⌜ r ≡ signedOf negative a ⌝ }
 {
-    match m {
-        Measured::Good(n) => Part::Whole(with_sign(negative, n)),
-        Measured::Held(_) => Part::OutOfRange,
-        Measured::Missing => Part::OutOfRange,
+    match a {
+        Converted::OutOfRange => Part::OutOfRange,
+        Converted::Whole(n) => Part::Whole(with_sign(negative, n)),
     }
 }
 
-// One part: what its magnitude counts as, with the sign kept. The sign is taken off before the first step, so that it is no cause.
+// A number without its sign.
+fn magnitude(negative: bool, x: f32) -> f32
+    ensures { λ y. ⌜ y ≡ magnitudeOf negative x ⌝ }
+{
+    if negative { -x } else { x }
+}
+
+// The first step of a part: a reading's, with the sign taken off.
+fn part_passes(c: Channel, exponent: u8) -> bool
+    ensures { λ r. ⌜ PartPasses (limitOf c) exponent r ⌝ }
+{
+    front::passes(
+        c,
+        Front {
+            quality: Quality::Good,
+            minus: false,
+            exponent,
+        },
+    )
+}
+
+// One part: what its magnitude counts as, with the sign kept. Its fraction is looked at only if its exponent passes.
 fn measure_part(c: Channel, x: f32) -> Part
     ensures { λ r. ⌜ r ≡ partOf (limitOf c) x ⌝ }
 {
     let f = front::front_of(Reading::Good(x));
-    if f.minus {
-        return signed(true, measure::measure(c, Reading::Good(-x)));
+    if part_passes(c, f.exponent) {
+        return signed(f.minus, measure::convert(c, magnitude(f.minus, x)));
     }
-    signed(false, measure::measure(c, Reading::Good(x)))
+    Part::OutOfRange
 }
 
 // Two parts, each of which is needed.

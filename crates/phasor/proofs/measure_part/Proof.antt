@@ -1,4 +1,4 @@
-use Rattle.phasor.proofs.Laws.{parts}
+use Rattle.phasor.proofs.Parts.{parts}
 use borrow.Author.Needs.{needs}
 use Rattle.phasor.proofs.measure_part.Statement.{statement}
 use Rattle.phasor.proofs.measure_part.Tie as tie
@@ -6,20 +6,20 @@ use Rattle.phasor.proofs.measure_part.Tie as tie
 front-of-requires : tie.Need-front-of-requires
 front-of-requires c κs = search needs
 
-measure-requires : tie.Need-measure-requires
-measure-requires c κs = search needs
+part-passes-requires : tie.Need-part-passes-requires
+part-passes-requires c κs = search needs
+
+magnitude-requires : tie.Need-magnitude-requires
+magnitude-requires c κs = search needs
+
+convert-requires : tie.Need-convert-requires
+convert-requires c κs = search needs
 
 signed-requires : tie.Need-signed-requires
 signed-requires c κs = search needs
 
 returns : tie.Need-returns
 returns c = search parts
-
-measure-requires-2 : tie.Need-measure-requires-2
-measure-requires-2 c κs = search needs
-
-signed-requires-2 : tie.Need-signed-requires-2
-signed-requires-2 c κs = search needs
 
 returns-2 : tie.Need-returns-2
 returns-2 c = search parts
@@ -29,9 +29,9 @@ measure-part-spec =
     tie.close
     (tie.spec
     front-of-requires
-    measure-requires
+    part-passes-requires
+    magnitude-requires
+    convert-requires
     signed-requires
     returns
-    measure-requires-2
-    signed-requires-2
     returns-2)

@@ -1,0 +1,32 @@
+-- A part in the order of work of ticket 4 of 02. Definitions only.
+use Prim.Native.Nat.{ℕ, _<_}
+use mathlib.Core.Path.{_≡_}
+use mathlib.Core.Bool.{Bool, true, false}
+use mathlib.Core.Logic.{_↔_}
+use lib.Ieee.{Float, binary32, ofFields, neg}
+use Rattle.measure.specs.Fronts.{fractions}
+use Rattle.measure.specs.declared.Converted.{Converted}
+use Rattle.measure.specs.declared.Converted.the-variants as converted
+use Rattle.phasor.specs.Pairs.{withSign, partOf}
+use Rattle.phasor.specs.declared.Part.{Part}
+use Rattle.phasor.specs.declared.Part.the-variants.{OutOfRange, Whole}
+
+-- "answers missing exactly where every fraction would", of a part, which is a reading too
+unfoldable pub EveryFractionOut : ℕ → Bool → ℕ → Type 0
+EveryFractionOut limit minus exponent = (t : ℕ) → t < fractions → partOf limit (ofFields binary32 minus exponent t) ≡ OutOfRange
+
+-- "a minus sign is no cause": whichever sign it has
+unfoldable pub PartPasses : ℕ → ℕ → Bool → Type 0
+PartPasses limit exponent passes = (minus : Bool) → (passes ≡ false) ↔ EveryFractionOut limit minus exponent
+
+-- ---- what the functions say to each other
+
+-- a number without the sign that it has
+unfoldable pub magnitudeOf : Bool → Float → Float
+magnitudeOf true x = neg x
+magnitudeOf false x = x
+
+-- a converted magnitude with a sign
+unfoldable pub signedOf : Bool → Converted → Part
+signedOf s converted.OutOfRange = OutOfRange
+signedOf s (converted.Whole n) = Whole (withSign s n)
