@@ -16,7 +16,8 @@ use lib.Ieee.Fits.{down-pos}
 use Rattle.measure.proofs.Laws.{units, same-test}
 use Rattle.measure.specs.Exact.{counts, inRange}
 use Rattle.measure.specs.Readings.{limitOf, goodOf, heldOf, measuredOf}
-use Rattle.measure.specs.Fronts.{handed, readingOf, EveryFractionMissing, hasNumber, topExponent}
+use Rattle.measure.specs.Fronts.{handed, readingOf, EveryFractionMissing}
+use Rattle.measure.specs.Steps.{hasNumber, topExponent}
 use Rattle.measure.specs.declared.Channel.{Channel}
 use Rattle.measure.specs.declared.Channel.the-variants.{Voltage, Current1A, Current5A}
 use Rattle.measure.specs.declared.Measured.{Measured}

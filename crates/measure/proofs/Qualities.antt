@@ -7,7 +7,8 @@ use lib.Ieee.{Float, binary32, ofBits}
 use borrow.Author.Needs.{needs}
 use Rattle.measure.specs.Exact.{inRange, thousandths}
 use Rattle.measure.specs.Readings.{ifInRange, convertedOf, goodOf, heldOf, measuredOf}
-use Rattle.measure.specs.Fronts.{numberFront, frontOf, numberOf, withQuality, countedOf}
+use Rattle.measure.specs.Fronts.{numberFront, frontOf}
+use Rattle.measure.specs.Steps.{numberOf, withQuality, countedOf}
 use Rattle.measure.specs.declared.Converted.{Converted}
 use Rattle.measure.specs.declared.Converted.the-variants.{OutOfRange, Whole}
 use Rattle.measure.specs.declared.Measured.{Measured}

@@ -3,12 +3,8 @@
 use Prim.Native.Nat.{ℕ, _/_, _%_, _<_}
 use mathlib.Core.Path.{_≡_}
 use mathlib.Core.Bool.{Bool, true, false}
-use lib.IntN.{pos}
 use lib.Dec.{leb}
-use lib.Ieee.{Float, binary32, ofFields, ofBits, toBits, ofInt}
-use Rattle.measure.specs.declared.Converted.{Converted}
-use Rattle.measure.specs.declared.Converted.the-variants.{OutOfRange, Whole}
-use Rattle.measure.specs.declared.Measured.{Measured}
+use lib.Ieee.{Float, binary32, ofFields, toBits}
 use Rattle.measure.specs.declared.Measured.the-variants as measured
 use Rattle.measure.specs.declared.Reading.{Reading}
 use Rattle.measure.specs.declared.Reading.the-variants.{Good, Held, Invalid}
@@ -60,29 +56,3 @@ unfoldable pub fractionOf : Reading → ℕ
 fractionOf (Good x) = digitsOf x
 fractionOf (Held x) = digitsOf x
 fractionOf Invalid = 0
-
--- ---- what the functions of the two steps say to each other
-
-unfoldable pub hasNumber : Quality → Bool
-hasNumber quality.Good = true
-hasNumber quality.Held = true
-hasNumber quality.Invalid = false
-
--- the exponent in which the limit lies
-unfoldable pub topExponent : ℕ → ℕ
-topExponent limit = exponentOf (ofInt binary32 (pos limit))
-
--- the number of a reading, and 0 of an Invalid one
-unfoldable pub numberOf : Reading → Float
-numberOf (Good x) = x
-numberOf (Held x) = x
-numberOf Invalid = ofBits binary32 0
-
-unfoldable pub withQuality : Quality → ℕ → Measured
-withQuality quality.Good n = measured.Good n
-withQuality quality.Held n = measured.Held n
-withQuality quality.Invalid n = measured.Missing
-
-unfoldable pub countedOf : Quality → Converted → Measured
-countedOf q OutOfRange = measured.Missing
-countedOf q (Whole n) = withQuality q n

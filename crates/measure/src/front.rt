@@ -3,7 +3,8 @@ ghost use mathlib.Core.Path.{_≡_};
 ghost use mathlib.Core.Bool.{false};
 ghost use mathlib.Core.Logic.{_↔_};
 ghost use Rattle.measure.specs.Readings.{limitOf};
-ghost use Rattle.measure.specs.Fronts.{handed, readingOf, EveryFractionMissing, digitsOf, numberFront, frontOf, fractionOf, hasNumber, topExponent};
+ghost use Rattle.measure.specs.Fronts.{handed, readingOf, EveryFractionMissing, digitsOf, numberFront, frontOf, fractionOf};
+ghost use Rattle.measure.specs.Steps.{hasNumber, topExponent};
 use crate::Channel;
 use crate::Reading;
 

@@ -4,7 +4,7 @@ ghost use Prim.Native.Nat.{_*_};
 ghost use lib.Dec.{T};
 ghost use Rattle.measure.specs.Exact.{inRange, thousandths};
 ghost use Rattle.measure.specs.Readings.{limitOf, convertedOf, measuredOf, AtMost};
-ghost use Rattle.measure.specs.Fronts.{numberOf, withQuality, countedOf};
+ghost use Rattle.measure.specs.Steps.{numberOf, withQuality, countedOf};
 use crate::front::Quality;
 
 pub mod front;
