@@ -2,7 +2,7 @@
 -- Assumes nothing.
 use mathlib.Core.Path.{_≡_, refl, sym, ap, _∙_, subst}
 use mathlib.Core.Logic.{_↔_, inl, inr}
-use mathlib.Core.Bool.{Bool, true, false, not, _&&_, _||_, cond, true≢false}
+use mathlib.Core.Bool.{Bool, true, false, not, _&&_, _||_, true≢false}
 use Prim.Native.Nat.{ℕ, zero, suc, _+_, _-_, _*_, _^_, _≤_, _<_, zero-le}
 use native.Mathlib.Nat.{le-trans, le-of-eq, lt-of-lt-of-le, lt-irrefl, mul-pos, mul-right-comm, mul-le-mul, mul-le-mul-right, le-of-mul-le-mul-right, eq-zero-or-pos, zero-mul}
 use native.Mathlib.Omega.{arith}
@@ -11,9 +11,9 @@ use borrow.Author.Tests.{not-true, not-false, lt-leb, le-leb, eq-eqb, ne-eqb, le
 use lib.Dec.{T, leb, eqb, le→leb, leb→le, lit≤, lit<}
 use lib.Pow.{pow-pos, pow-mono}
 use lib.Ieee.{Float, nan, inf, fin, binary32, up, down, ofFields, toBits, ofInt}
-use lib.Ieee.Exact.{HasValue, odd-sign}
+use lib.Ieee.Exact.{HasValue}
 use lib.Ieee.Fits.{down-pos}
-use Rattle.measure.proofs.Laws.{units, same-test}
+use Rattle.measure.proofs.Laws.{units, highest, fields-value, counts-finite, same-test}
 use Rattle.measure.specs.Exact.{counts, inRange}
 use Rattle.measure.specs.Readings.{limitOf, goodOf, heldOf, measuredOf}
 use Rattle.measure.specs.Fronts.{handed, readingOf, EveryFractionMissing}
@@ -26,22 +26,15 @@ use Rattle.measure.specs.declared.front.Front.{Front}
 use Rattle.measure.specs.declared.front.Quality.{Quality}
 use Rattle.measure.specs.declared.front.Quality.the-variants as quality
 
--- ---- a number by its fields, in units of 2 ^ -149
+-- ---- the range of a number by its fields, in units of 2 ^ -149
 
--- with the highest exponent, an infinity or a NaN
-none-finite : (s : Bool) (x t : ℕ) → x ≡ 255 → counts (ofFields binary32 s x t) ≡ false
-unfolding ofFields
-none-finite s zero t e = absurd (omega (arith, e))
-none-finite s (suc x) t e = rw (eq-eqb (suc x) 255 e) (go (eqb t 0))
+-- with the highest exponent none counts
+none-counted : (s : Bool) (x t : ℕ) → x ≡ 255 → counts (ofFields binary32 s x t) ≡ false
+none-counted s x t e = go (counts (ofFields binary32 s x t)) refl
   where
-    go : (b : Bool) → counts (cond b (inf s) nan) ≡ false
-    go true = refl
-    go false = refl
-
-finite-value : (s : Bool) (x t : ℕ) → (x ≡ 255 → ⊥) → HasValue (ofFields binary32 s x t) s (units x t) (2 ^ 149)
-unfolding ofFields
-finite-value s zero t n = odd-sign 24 s t 0 149
-finite-value s (suc x) t n = rw (ne-eqb (suc x) 255 n) (odd-sign 24 s (0x80_0000 + t) x 149)
+    go : (b : Bool) → counts (ofFields binary32 s x t) ≡ b → b ≡ false
+    go true is = absurd (highest s x t e (counts-finite (ofFields binary32 s x t) (subst T (sym is) tt)))
+    go false is = refl
 
 -- the range of a number n / d that is a / p
 module _ (n d a p : ℕ) (D : 0 < d) (P : 0 < p) (same : n * p ≡ a * d) where
@@ -107,13 +100,13 @@ module _ (l p : ℕ) (lies : Lies l p) where
       by-sign false h = above x t (leb-false x p h)
 
       by-top : (b : Bool) → eqb x 255 ≡ b → inRange l (ofFields binary32 s x t) ≡ false
-      by-top true e = rw (none-finite s x t (eqb-true x 255 e))
-      by-top false e = range-by-value l (ofFields binary32 s x t) s (units x t) (finite-value s x t (eqb-false x 255 e)) ∙ by-sign s h
+      by-top true e = rw (none-counted s x t (eqb-true x 255 e))
+      by-top false e = range-by-value l (ofFields binary32 s x t) s (units x t) (fields-value s x t (eqb-false x 255 e)) ∙ by-sign s h
 
   -- and with one that it does, the fraction 0 counts
   let-pass : (s : Bool) (x : ℕ) → lets s x ≡ true → inRange l (ofFields binary32 s x 0) ≡ true
   let-pass s x h =
-      range-by-value l (ofFields binary32 s x 0) s (units x 0) (finite-value s x 0 (λ e. lt-irrefl x (omega (arith, e, in-top s h, lies .finite))))
+      range-by-value l (ofFields binary32 s x 0) s (units x 0) (fields-value s x 0 (λ e. lt-irrefl x (omega (arith, e, in-top s h, lies .finite))))
       ∙ rw (le-leb (units x 0) (l * 2 ^ 149) (reaches x (in-top s h))) (by-sign s h)
     where
       in-top : (s : Bool) → lets s x ≡ true → x ≤ p

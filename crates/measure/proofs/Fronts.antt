@@ -2,16 +2,16 @@
 -- Assumes nothing.
 use mathlib.Core.Path.{_≡_, refl, sym, ap, _∙_, subst}
 use mathlib.Core.Logic.{_↔_}
-use mathlib.Core.Bool.{Bool, true, false, not, cond, true≢false}
-use Prim.Native.Nat.{ℕ, zero, suc, _+_, _*_, _/_, _%_, _^_, _<_}
+use mathlib.Core.Bool.{Bool, true, false, not, true≢false}
+use Prim.Native.Nat.{ℕ, _<_}
 use native.Mathlib.Nat.{mod-lt}
 use borrow.Author.Needs.{needs}
-use lib.Dec.{T, leb, eqb, lit<}
+use lib.Dec.{T, lit<}
 use lib.IntN.{ℤ}
-use lib.Ieee.{Float, nan, inf, fin, binary32, odd, ofFields, ofBits, toBits, fits, isNan, ne}
+use lib.Ieee.{Float, nan, inf, fin, binary32, ofFields, ofBits, toBits, fits, isNan, ne}
 use lib.Ieee.Bits.{ofBits-toBits}
 use lib.Ieee.Compare.{differs-from-itself}
-use lib.Ieee.Exact.{HasValue, odd-sign}
+use Rattle.measure.proofs.Laws.{bits-value}
 use Rattle.measure.specs.Readings.{measuredOf}
 use Rattle.measure.specs.Fronts.{fractions, handed, readingOf, EveryFractionMissing, minusOf, exponentOf, digitsOf, numberFront, frontOf, fractionOf}
 use Rattle.measure.specs.declared.Measured.{Measured}
@@ -52,38 +52,7 @@ module _ (f : Front) (q : Quality) (x : Float) where
     unfolding readingOf ofBits
     whole-number fit = rw is (ap (handed q) (ofBits-toBits binary32 x fit))
 
--- the sign of a number that is no NaN
-sign : Float → Bool
-sign nan = false
-sign (inf s) = s
-sign (fin s m e) = s
-
-value-sign : (x : Float) (s : Bool) (a c : ℕ) → HasValue x s a c → sign x ≡ s
-unfolding sign
-value-sign nan s a c v = absurd v
-value-sign (inf t) s a c v = absurd v
-value-sign (fin t m e) s a c v = v .0
-
-fields-sign : (s : Bool) (x t : ℕ) → T (not (isNan (ofFields binary32 s x t))) → s ≡ sign (ofFields binary32 s x t)
-unfolding ofFields isNan sign
-fields-sign s zero t h = sym (value-sign (odd 24 s t 0 149) s (t * 2 ^ 0) (2 ^ 149) (odd-sign 24 s t 0 149))
-fields-sign s (suc x) t h = go (eqb (suc x) 255) (eqb t 0) h
-  where
-    number : Float
-    number = odd 24 s (0x80_0000 + t) x 149
-
-    go : (a b : Bool) → T (not (isNan (cond a (cond b (inf s) nan) number))) → s ≡ sign (cond a (cond b (inf s) nan) number)
-    go true true h = refl
-    go true false h = absurd h
-    go false b h = sym (value-sign number s ((0x80_0000 + t) * 2 ^ x) (2 ^ 149) (odd-sign 24 s (0x80_0000 + t) x 149))
-
-minus-is : (x : Float) → T (fits binary32 x) → T (not (isNan x)) → minusOf x ≡ sign x
-unfolding ofBits
-minus-is x fit fine =
-    let b = toBits binary32 x in
-    let same = ofBits-toBits binary32 x fit in
-    fields-sign (leb 0x8000_0000 b) (b % 0x8000_0000 / 0x80_0000) (b % 0x80_0000) (subst (λ (y : Float). T (not (isNan y))) (sym same) fine) ∙ ap sign same
-
+-- the bit pattern's sign is the number's
 pub minus-nan : minusOf nan ≡ false
 unfolding toBits
 minus-nan = refl
@@ -94,8 +63,7 @@ minus-inf true = refl
 minus-inf false = refl
 
 pub minus-fin : (s : Bool) (m : ℕ) (e : ℤ) → T (fits binary32 (fin s m e)) → minusOf (fin s m e) ≡ s
-unfolding isNan sign
-minus-fin s m e fit = minus-is (fin s m e) fit tt
+minus-fin s m e fit = sym (bits-value (fin s m e) fit tt .0)
 
 pub ruleset number-fronts = (front-nan, whole-nan, front-number, whole-number, equals-itself, needs)
 

@@ -13,8 +13,7 @@ use lib.Pow.{pow-add, pow-pos, pow-mono}
 use lib.Ieee.{Float, nan, inf, fin, binary32, up, down, odd, ofFields, ofBits, toBits, ofInt, fits, isNan, le}
 use lib.Ieee.Fits.{and-i, and-l, and-r, down-pos}
 use lib.Ieee.Bits.{ofBits-toBits}
-use lib.Ieee.Digits.{Equals, odd-val}
-use lib.Ieee.Exact.{HasValue}
+use lib.Ieee.Exact.{HasValue, odd-sign}
 use lib.Ieee.Back.{round-whole}
 use lib.Ieee.Scale.{finite}
 use lib.Ieee.Positive.{num, den, den-pos}
@@ -36,31 +35,37 @@ abbrev pub units : ℕ → ℕ → ℕ
 units zero t = t * 2 ^ 0
 units (suc k) t = (0x80_0000 + t) * 2 ^ k
 
-fields-val : (s : Bool) (x t : ℕ) → T (finite (ofFields binary32 s x t)) → Equals (ofFields binary32 s x t) (units x t) (2 ^ 149)
+-- with the highest exponent, an infinity or a NaN
+pub highest : (s : Bool) (x t : ℕ) → x ≡ 255 → T (finite (ofFields binary32 s x t)) → ⊥
 unfolding ofFields
-fields-val s zero t f = odd-val 24 s t 0 149
-fields-val s (suc x) t f = go (eqb (suc x) 255) (eqb t 0) f
+highest s zero t e f = absurd (omega (arith, e))
+highest s (suc x) t e f = go (eqb t 0) (subst (λ (b : Bool). T (finite (cond b (cond (eqb t 0) (inf s) nan) (odd 24 s (0x80_0000 + t) x 149)))) (eq-eqb (suc x) 255 e) f)
   where
-    go : (a b : Bool) → T (finite (cond a (cond b (inf s) nan) (odd 24 s (0x80_0000 + t) x 149))) → Equals (cond a (cond b (inf s) nan) (odd 24 s (0x80_0000 + t) x 149)) (units (suc x) t) (2 ^ 149)
-    go true true h = absurd h
-    go true false h = absurd h
-    go false b h = odd-val 24 s (0x80_0000 + t) x 149
+    go : (b : Bool) → T (finite (cond b (inf s) nan)) → ⊥
+    go true h = absurd h
+    go false h = absurd h
 
-cross : (x : Float) (a c : ℕ) → Equals x a c → num x * c ≡ a * den x
-cross nan a c h = absurd h
-cross (inf s) a c h = absurd h
-cross (fin s m e) a c h = h
+pub fields-value : (s : Bool) (x t : ℕ) → (x ≡ 255 → ⊥) → HasValue (ofFields binary32 s x t) s (units x t) (2 ^ 149)
+unfolding ofFields
+fields-value s zero t n = odd-sign 24 s t 0 149
+fields-value s (suc x) t n = rw (ne-eqb (suc x) 255 n) (odd-sign 24 s (0x80_0000 + t) x 149)
 
-bits-val : (b : ℕ) → T (finite (ofBits binary32 b)) → Equals (ofBits binary32 b) (units (exponent b) (b % 0x80_0000)) (2 ^ 149)
+-- a finite number by its bit pattern, whose sign is its own
+pub bits-value : (x : Float) → T (fits binary32 x) → T (finite x) → HasValue x (leb 0x8000_0000 (toBits binary32 x)) (units (exponent (toBits binary32 x)) (toBits binary32 x % 0x80_0000)) (2 ^ 149)
 unfolding ofBits
-bits-val b f = fields-val (leb 0x8000_0000 b) (exponent b) (b % 0x80_0000) f
+bits-value x fit fine =
+    let b = toBits binary32 x in
+    let same = ofBits-toBits binary32 x fit in
+    subst (λ (y : Float). HasValue y (leb 0x8000_0000 b) (units (exponent b) (b % 0x80_0000)) (2 ^ 149)) same
+    (fields-value (leb 0x8000_0000 b) (exponent b) (b % 0x80_0000) (λ e. highest (leb 0x8000_0000 b) (exponent b) (b % 0x80_0000) e (subst (λ (y : Float). T (finite y)) (sym same) fine)))
+
+cross : (x : Float) (s : Bool) (a c : ℕ) → HasValue x s a c → num x * c ≡ a * den x
+cross nan s a c h = absurd h
+cross (inf t) s a c h = absurd h
+cross (fin t m e) s a c h = h .1
 
 value : (x : Float) → T (fits binary32 x) → T (finite x) → num x * 2 ^ 149 ≡ units (exponent (toBits binary32 x)) (toBits binary32 x % 0x80_0000) * den x
-value x fit fine =
-    let b = toBits binary32 x in
-    let same : ofBits binary32 b ≡ x = ofBits-toBits binary32 x fit in
-    cross x (units (exponent b) (b % 0x80_0000)) (2 ^ 149)
-    (subst (λ (y : Float). Equals y (units (exponent b) (b % 0x80_0000)) (2 ^ 149)) same (bits-val b (subst (λ (y : Float). T (finite y)) (sym same) fine)))
+value x fit fine = cross x (leb 0x8000_0000 (toBits binary32 x)) (units (exponent (toBits binary32 x)) (toBits binary32 x % 0x80_0000)) (2 ^ 149) (bits-value x fit fine)
 
 -- ---- the fraction n / d of such a value, which is at most 200: at most 2 ^ -11 for an exponent below 116, else a fraction over a power of two that a `u64` can be shifted by
 -- (`omega` reads no number of more than 38 digits, so the powers above 2 ^ 126 are cancelled by laws)
@@ -97,7 +102,7 @@ large (suc k) t n d D h g e =
     split k l = omega arith
 
 -- what an x in the range is, by its bits
-counts-finite : (x : Float) → T (counts x) → T (finite x)
+pub counts-finite : (x : Float) → T (counts x) → T (finite x)
 counts-finite nan h = h
 counts-finite (inf s) h = h
 counts-finite (fin s m e) h = tt

@@ -2,7 +2,7 @@
 -- reading shall judge quality, sign and exponent first". Definitions only.
 use Prim.Native.Nat.{ℕ, _/_, _%_, _<_}
 use mathlib.Core.Path.{_≡_}
-use mathlib.Core.Bool.{Bool, true, false}
+use mathlib.Core.Bool.{Bool, false}
 use lib.Dec.{leb}
 use lib.Ieee.{Float, binary32, ofFields, toBits}
 use Rattle.measure.specs.declared.Measured.the-variants as measured

@@ -1,15 +1,14 @@
 -- What the functions' proofs cite: a number's part by what its magnitude counts as, and pairs of parts.
 -- Assumes nothing.
 use mathlib.Core.Path.{_≡_, refl, sym, ap, _∙_}
-use mathlib.Core.Bool.{Bool, true, false, true≢false}
-use Prim.Native.Nat.{ℕ, zero, suc, _+_, _*_, _/_, _<_, _≤_, _^_}
-use native.Mathlib.Nat.{le-trans, le-of-eq, mul-assoc, mul-le-mul-left, div-eq-of-lt}
+use mathlib.Core.Bool.{Bool, true, false}
+use Prim.Native.Nat.{ℕ, zero, suc, _+_, _*_, _<_, _≤_, _^_}
+use native.Mathlib.Nat.{le-trans, le-of-eq, mul-assoc, mul-le-mul-left}
 use native.Mathlib.Omega.{arith}
 use borrow.Author.Needs.{needs}
-use borrow.Author.Tests.{lt-ltb, leb-true, ltb-true, ltb-false}
-use lib.IntN.{ℤ, pos, negsuc, negℤ, natAbs, _-ℤ_}
+use borrow.Author.Tests.{lt-ltb, leb-true}
+use lib.IntN.{ℤ, pos, negsuc, natAbs, _-ℤ_}
 use lib.Ieee.{Float}
-use lib.Ieee.Fits.{down-pos}
 use lib.Ieee.Scale.{finite}
 use lib.Ieee.Positive.{num, den, den-pos}
 use mir.Syntax.{w64}
@@ -22,7 +21,7 @@ use Rattle.measure.proofs.Laws.{nearest-le}
 use Rattle.measure.specs.declared.Converted.{Converted}
 use Rattle.measure.specs.declared.Converted.the-variants as converted
 use Rattle.measure.specs.declared.Reading.the-variants.{Good, Held, Invalid}
-use Rattle.phasor.specs.Pairs.{partInRange, withSign, minus, signedThousandths, ifInRange, partOf, freshBy, freshOf, pairedOf, countedOf, vectorOf, Within}
+use Rattle.phasor.specs.Pairs.{partInRange, withSign, minus, signedThousandths, ifInRange, partOf, freshOf, pairedOf, countedOf, vectorOf, Within}
 use Rattle.phasor.specs.Parts.{signedOf}
 use Rattle.phasor.specs.declared.Fresh.{Fresh}
 use Rattle.phasor.specs.declared.Fresh.the-variants as fresh

@@ -14,7 +14,7 @@ use Rattle.measure.proofs.Fronts.{minus-nan, minus-inf, minus-fin}
 use Rattle.measure.specs.Exact.{inRange, thousandths}
 use Rattle.measure.specs.Readings as readings
 use Rattle.measure.specs.Readings.{goodOf, measuredOf, convertedOf}
-use Rattle.measure.specs.Fronts.{fractions, handed, readingOf, EveryFractionMissing, minusOf, digitsOf, numberFront, frontOf, fractionOf}
+use Rattle.measure.specs.Fronts.{handed, readingOf, EveryFractionMissing, minusOf, digitsOf, numberFront, frontOf, fractionOf}
 use Rattle.measure.specs.Steps.{numberOf}
 use Rattle.measure.specs.declared.Converted.{Converted}
 use Rattle.measure.specs.declared.Measured.the-variants as measured

@@ -15,7 +15,7 @@ use Rattle.phasor.specs.declared.Part.the-variants.{OutOfRange, Whole}
 unfoldable pub EveryFractionOut : ℕ → Bool → ℕ → Type 0
 EveryFractionOut limit minus exponent = (t : ℕ) → t < fractions → partOf limit (ofFields binary32 minus exponent t) ≡ OutOfRange
 
--- "a minus sign is no cause": whichever sign it has
+-- "in the range −200 to 200 V or −40k to 40k A" (ticket 3), so whichever sign it has
 unfoldable pub PartPasses : ℕ → ℕ → Bool → Type 0
 PartPasses limit exponent passes = (minus : Bool) → (passes ≡ false) ↔ EveryFractionOut limit minus exponent
 
