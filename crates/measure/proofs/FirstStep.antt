@@ -1,4 +1,4 @@
--- What the first step's proofs cite: a number by its fields, which fields leave no fraction in range, and the sentence of `passes`.
+-- What the first step's proofs cite: which fields of a number leave no fraction in range, and the sentence of `passes`.
 -- Assumes nothing.
 use mathlib.Core.Path.{_≡_, refl, sym, ap, _∙_, subst}
 use mathlib.Core.Logic.{_↔_, inl, inr}
@@ -130,54 +130,50 @@ top-is Voltage = record { reached = lit≤ tt; passed = lit< tt; finite = lit< t
 top-is Current1A = record { reached = lit≤ tt; passed = lit< tt; finite = lit< tt }
 top-is Current5A = record { reached = lit≤ tt; passed = lit< tt; finite = lit< tt }
 
-missing-handed : (l : ℕ) (q : Quality) (x : Float) → inRange l x ≡ false → measuredOf l (handed q x) ≡ measured.Missing
-unfolding measuredOf goodOf heldOf
-missing-handed l quality.Good x e = rw e
-missing-handed l quality.Held x e = rw e
-missing-handed l quality.Invalid x e = refl
-
 unfoldable pub is-missing : Measured → Bool
 is-missing (measured.Good n) = false
 is-missing (measured.Held n) = false
 is-missing measured.Missing = true
 
-counts-handed : (l : ℕ) (q : Quality) (x : Float) → T (hasNumber q) → inRange l x ≡ true → measuredOf l (handed q x) ≡ measured.Missing → ⊥
-unfolding measuredOf goodOf heldOf hasNumber is-missing
-counts-handed l quality.Good x h e m = absurd (true≢false (sym (ap is-missing m) ∙ rw e))
-counts-handed l quality.Held x h e m = absurd (true≢false (sym (ap is-missing m) ∙ rw e))
-counts-handed l quality.Invalid x h e m = absurd h
+-- a number handed over with a quality is missing exactly where the quality has none or it is out of range
+module _ (l : ℕ) (x : Float) where
+  missing-handed : (q : Quality) → (hasNumber q && inRange l x) ≡ false → measuredOf l (handed q x) ≡ measured.Missing
+  unfolding measuredOf goodOf heldOf hasNumber
+  missing-handed quality.Good e = rw e
+  missing-handed quality.Held e = rw e
+  missing-handed quality.Invalid e = refl
+
+  counts-handed : (q : Quality) → (hasNumber q && inRange l x) ≡ true → measuredOf l (handed q x) ≡ measured.Missing → ⊥
+  unfolding measuredOf goodOf heldOf hasNumber is-missing
+  counts-handed quality.Good e m = absurd (true≢false (sym (ap is-missing m) ∙ rw e))
+  counts-handed quality.Held e m = absurd (true≢false (sym (ap is-missing m) ∙ rw e))
+  counts-handed quality.Invalid e m = absurd (true≢false (sym e))
+
+-- what follows of the second test follows of both
+kept : (v a b c : Bool) → (b ≡ v → c ≡ v) → (a && b) ≡ v → (a && c) ≡ v
+kept v true b c f e = f e
+kept v false b c f e = e
 
 -- the code's tests
 abbrev tested : Channel → Front → Bool
 tested c f = hasNumber (f .quality) && lets (limitOf c) (topExponent (limitOf c)) (top-is c) (f .minus) (f .exponent)
 
-module _ (c : Channel) (q : Quality) (s : Bool) (x : ℕ) where
-  none-counts : tested c (record { quality = q; minus = s; exponent = x }) ≡ false → (t : ℕ) → measuredOf (limitOf c) (handed q (ofFields binary32 s x t)) ≡ measured.Missing
-  unfolding hasNumber measuredOf
-  none-counts e t = go q e
-    where
-      go : (q : Quality) → tested c (record { quality = q; minus = s; exponent = x }) ≡ false → measuredOf (limitOf c) (handed q (ofFields binary32 s x t)) ≡ measured.Missing
-      go quality.Good e = missing-handed (limitOf c) quality.Good (ofFields binary32 s x t) (refused _ _ (top-is c) s x t e)
-      go quality.Held e = missing-handed (limitOf c) quality.Held (ofFields binary32 s x t) (refused _ _ (top-is c) s x t e)
-      go quality.Invalid e = refl
-
-  zero-counts : tested c (record { quality = q; minus = s; exponent = x }) ≡ true → measuredOf (limitOf c) (handed q (ofFields binary32 s x 0)) ≡ measured.Missing → ⊥
-  unfolding hasNumber
-  zero-counts e m = go q e m
-    where
-      go : (q : Quality) → tested c (record { quality = q; minus = s; exponent = x }) ≡ true → measuredOf (limitOf c) (handed q (ofFields binary32 s x 0)) ≡ measured.Missing → ⊥
-      go quality.Good e m = counts-handed (limitOf c) quality.Good (ofFields binary32 s x 0) tt (let-pass _ _ (top-is c) s x e) m
-      go quality.Held e m = counts-handed (limitOf c) quality.Held (ofFields binary32 s x 0) tt (let-pass _ _ (top-is c) s x e) m
-      go quality.Invalid e m = absurd (true≢false (sym e))
-
 module _ (c : Channel) (f : Front) (r : Bool) where
+  none-counts : tested c f ≡ false → (t : ℕ) → measuredOf (limitOf c) (readingOf f t) ≡ measured.Missing
+  unfolding readingOf
+  none-counts e t = missing-handed (limitOf c) (ofFields binary32 (f .minus) (f .exponent) t) (f .quality) (kept false (hasNumber (f .quality)) _ _ (refused _ _ (top-is c) (f .minus) (f .exponent) t) e)
+
+  zero-counts : tested c f ≡ true → measuredOf (limitOf c) (readingOf f 0) ≡ measured.Missing → ⊥
+  unfolding readingOf
+  zero-counts e = counts-handed (limitOf c) (ofFields binary32 (f .minus) (f .exponent) 0) (f .quality) (kept true (hasNumber (f .quality)) _ _ (let-pass _ _ (top-is c) (f .minus) (f .exponent)) e)
+
   sentence : r ≡ tested c f → (r ≡ false) ↔ EveryFractionMissing (limitOf c) f
-  unfolding EveryFractionMissing readingOf
-  sentence is = (λ no. λ t small. none-counts c (f .quality) (f .minus) (f .exponent) (sym is ∙ no) t, λ all. go r refl all)
+  unfolding EveryFractionMissing
+  sentence is = (λ no. λ t small. none-counts (sym is ∙ no) t, λ all. go r refl all)
     where
       go : (b : Bool) → r ≡ b → EveryFractionMissing (limitOf c) f → r ≡ false
       go false e all = e
-      go true e all = absurd (zero-counts c (f .quality) (f .minus) (f .exponent) (sym is ∙ e) (all 0 (lit< tt)))
+      go true e all = absurd (zero-counts (sym is ∙ e) (all 0 (lit< tt)))
 
   -- as the code comes to its answer
   module _ (q : Quality) (n : Bool) (kind : q ≡ f .quality) (number : n ≡ hasNumber q) where

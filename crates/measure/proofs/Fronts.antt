@@ -13,7 +13,7 @@ use lib.Ieee.Bits.{ofBits-toBits}
 use lib.Ieee.Compare.{differs-from-itself}
 use Rattle.measure.proofs.Laws.{bits-value}
 use Rattle.measure.specs.Readings.{measuredOf}
-use Rattle.measure.specs.Fronts.{fractions, handed, readingOf, EveryFractionMissing, minusOf, exponentOf, digitsOf, numberFront, frontOf, fractionOf}
+use Rattle.measure.specs.Fronts.{fractions, handed, readingOf, EveryFractionMissing, minusOf, exponentOf, numberFraction, numberFront, frontOf, fractionOf}
 use Rattle.measure.specs.declared.Measured.{Measured}
 use Rattle.measure.specs.declared.Measured.the-variants as measured
 use Rattle.measure.specs.declared.Reading.{Reading}
@@ -39,7 +39,7 @@ module _ (f : Front) (q : Quality) (x : Float) where
     unfolding numberFront toBits
     front-nan = rw no-number is
 
-    pub whole-nan : readingOf f (digitsOf x) ≡ handed q x
+    pub whole-nan : readingOf f (numberFraction x) ≡ handed q x
     unfolding readingOf toBits ofFields
     whole-nan = rw (no-number, is)
 
@@ -48,7 +48,7 @@ module _ (f : Front) (q : Quality) (x : Float) where
     unfolding numberFront
     front-number = is
 
-    pub whole-number : T (fits binary32 x) → readingOf f (digitsOf x) ≡ handed q x
+    pub whole-number : T (fits binary32 x) → readingOf f (numberFraction x) ≡ handed q x
     unfolding readingOf ofBits
     whole-number fit = rw is (ap (handed q) (ofBits-toBits binary32 x fit))
 
@@ -82,11 +82,11 @@ module _ (f : Front) (r : Reading) where
   unfolding frontOf
   front-invalid e is = rw e is
 
-  pub whole-good : (x : Float) → r ≡ Good x → readingOf f (digitsOf x) ≡ handed quality.Good x → readingOf f (fractionOf r) ≡ r
+  pub whole-good : (x : Float) → r ≡ Good x → readingOf f (numberFraction x) ≡ handed quality.Good x → readingOf f (fractionOf r) ≡ r
   unfolding fractionOf
   whole-good x e is = rw e is
 
-  pub whole-held : (x : Float) → r ≡ Held x → readingOf f (digitsOf x) ≡ handed quality.Held x → readingOf f (fractionOf r) ≡ r
+  pub whole-held : (x : Float) → r ≡ Held x → readingOf f (numberFraction x) ≡ handed quality.Held x → readingOf f (fractionOf r) ≡ r
   unfolding fractionOf
   whole-held x e is = rw e is
 

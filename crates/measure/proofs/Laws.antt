@@ -19,6 +19,7 @@ use lib.Ieee.Scale.{finite}
 use lib.Ieee.Positive.{num, den, den-pos}
 use Rattle.measure.specs.Exact.{counts, inRange, nearest, thousandths}
 use Rattle.measure.specs.Readings.{limitOf, ifInRange, convertedOf, goodOf, heldOf, measuredOf, AtMost}
+use Rattle.measure.specs.Fronts.{minusOf, exponentOf, numberFraction}
 use Rattle.measure.specs.declared.Measured.{Measured}
 use Rattle.measure.specs.declared.Channel.{Channel}
 use Rattle.measure.specs.declared.Channel.the-variants.{Voltage, Current1A, Current5A}
@@ -51,21 +52,20 @@ fields-value s zero t n = odd-sign 24 s t 0 149
 fields-value s (suc x) t n = rw (ne-eqb (suc x) 255 n) (odd-sign 24 s (0x80_0000 + t) x 149)
 
 -- a finite number by its bit pattern, whose sign is its own
-pub bits-value : (x : Float) → T (fits binary32 x) → T (finite x) → HasValue x (leb 0x8000_0000 (toBits binary32 x)) (units (exponent (toBits binary32 x)) (toBits binary32 x % 0x80_0000)) (2 ^ 149)
+pub bits-value : (x : Float) → T (fits binary32 x) → T (finite x) → HasValue x (minusOf x) (units (exponentOf x) (numberFraction x)) (2 ^ 149)
 unfolding ofBits
 bits-value x fit fine =
-    let b = toBits binary32 x in
     let same = ofBits-toBits binary32 x fit in
-    subst (λ (y : Float). HasValue y (leb 0x8000_0000 b) (units (exponent b) (b % 0x80_0000)) (2 ^ 149)) same
-    (fields-value (leb 0x8000_0000 b) (exponent b) (b % 0x80_0000) (λ e. highest (leb 0x8000_0000 b) (exponent b) (b % 0x80_0000) e (subst (λ (y : Float). T (finite y)) (sym same) fine)))
+    subst (λ (y : Float). HasValue y (minusOf x) (units (exponentOf x) (numberFraction x)) (2 ^ 149)) same
+    (fields-value (minusOf x) (exponentOf x) (numberFraction x) (λ e. highest (minusOf x) (exponentOf x) (numberFraction x) e (subst (λ (y : Float). T (finite y)) (sym same) fine)))
 
 cross : (x : Float) (s : Bool) (a c : ℕ) → HasValue x s a c → num x * c ≡ a * den x
 cross nan s a c h = absurd h
 cross (inf t) s a c h = absurd h
 cross (fin t m e) s a c h = h .1
 
-value : (x : Float) → T (fits binary32 x) → T (finite x) → num x * 2 ^ 149 ≡ units (exponent (toBits binary32 x)) (toBits binary32 x % 0x80_0000) * den x
-value x fit fine = cross x (leb 0x8000_0000 (toBits binary32 x)) (units (exponent (toBits binary32 x)) (toBits binary32 x % 0x80_0000)) (2 ^ 149) (bits-value x fit fine)
+value : (x : Float) → T (fits binary32 x) → T (finite x) → num x * 2 ^ 149 ≡ units (exponentOf x) (numberFraction x) * den x
+value x fit fine = cross x (minusOf x) (units (exponentOf x) (numberFraction x)) (2 ^ 149) (bits-value x fit fine)
 
 -- ---- the fraction n / d of such a value, which is at most 200: at most 2 ^ -11 for an exponent below 116, else a fraction over a power of two that a `u64` can be shifted by
 -- (`omega` reads no number of more than 38 digits, so the powers above 2 ^ 126 are cancelled by laws)

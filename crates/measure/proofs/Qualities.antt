@@ -1,12 +1,10 @@
 -- The definitions that go by a reading's kind, as `search` follows them: `search qualities`.
 -- Assumes nothing.
 use mathlib.Core.Path.{_≡_, refl, _∙_}
-use mathlib.Core.Bool.{Bool, true, false}
 use Prim.Native.Nat.{ℕ}
 use lib.Ieee.{Float, binary32, ofBits}
 use borrow.Author.Needs.{needs}
-use Rattle.measure.specs.Exact.{inRange, thousandths}
-use Rattle.measure.specs.Readings.{ifInRange, convertedOf, goodOf, heldOf, measuredOf}
+use Rattle.measure.specs.Readings.{convertedOf, goodOf, heldOf, measuredOf}
 use Rattle.measure.specs.Fronts.{numberFront, frontOf}
 use Rattle.measure.specs.Steps.{numberOf, withQuality, countedOf}
 use Rattle.measure.specs.declared.Converted.{Converted}
@@ -59,21 +57,21 @@ pub ruleset qualities = (with-good, with-held, with-none, counted-out, counted-w
 -- a reading is its number, counted with its quality
 whole-reading : (l : ℕ) (r : Reading) → countedOf (frontOf r .quality) (convertedOf l (numberOf r)) ≡ measuredOf l r
 unfolding frontOf numberFront numberOf countedOf withQuality measuredOf goodOf heldOf
-whole-reading l (Good x) = go (inRange l x) (thousandths x)
+whole-reading l (Good x) = go (convertedOf l x)
   where
-    go : (b : Bool) (n : ℕ) → countedOf quality.Good (ifInRange b n) ≡ goodOf (ifInRange b n)
-    go true n = refl
-    go false n = refl
-whole-reading l (Held x) = go (inRange l x) (thousandths x)
+    go : (a : Converted) → countedOf quality.Good a ≡ goodOf a
+    go OutOfRange = refl
+    go (Whole n) = refl
+whole-reading l (Held x) = go (convertedOf l x)
   where
-    go : (b : Bool) (n : ℕ) → countedOf quality.Held (ifInRange b n) ≡ heldOf (ifInRange b n)
-    go true n = refl
-    go false n = refl
-whole-reading l Invalid = go (inRange l (ofBits binary32 0)) (thousandths (ofBits binary32 0))
+    go : (a : Converted) → countedOf quality.Held a ≡ heldOf a
+    go OutOfRange = refl
+    go (Whole n) = refl
+whole-reading l Invalid = go (convertedOf l (ofBits binary32 0))
   where
-    go : (b : Bool) (n : ℕ) → countedOf quality.Invalid (ifInRange b n) ≡ measured.Missing
-    go true n = refl
-    go false n = refl
+    go : (a : Converted) → countedOf quality.Invalid a ≡ measured.Missing
+    go OutOfRange = refl
+    go (Whole n) = refl
 
 pub settled : (l : ℕ) (r : Reading) (f : Front) (q : Quality) (x : Float) (a : Converted) (m : Measured) → f ≡ frontOf r → q ≡ f .quality → x ≡ numberOf r → a ≡ convertedOf l x → m ≡ countedOf q a → m ≡ measuredOf l r
 settled l r f q x a m front kind number converted is =

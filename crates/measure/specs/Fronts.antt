@@ -40,8 +40,8 @@ minusOf x = leb 0x8000_0000 (toBits binary32 x)
 abbrev pub exponentOf : Float → ℕ
 exponentOf x = toBits binary32 x % 0x8000_0000 / fractions
 
-abbrev pub digitsOf : Float → ℕ
-digitsOf x = toBits binary32 x % fractions
+abbrev pub numberFraction : Float → ℕ
+numberFraction x = toBits binary32 x % fractions
 
 unfoldable pub numberFront : Quality → Float → Front
 numberFront q x = record { quality = q; minus = minusOf x; exponent = exponentOf x }
@@ -53,6 +53,6 @@ frontOf Invalid = record { quality = quality.Invalid; minus = false; exponent = 
 
 -- the fraction that comes after it
 unfoldable pub fractionOf : Reading → ℕ
-fractionOf (Good x) = digitsOf x
-fractionOf (Held x) = digitsOf x
+fractionOf (Good x) = numberFraction x
+fractionOf (Held x) = numberFraction x
 fractionOf Invalid = 0

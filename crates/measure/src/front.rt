@@ -3,7 +3,7 @@ ghost use mathlib.Core.Path.{_≡_};
 ghost use mathlib.Core.Bool.{false};
 ghost use mathlib.Core.Logic.{_↔_};
 ghost use Rattle.measure.specs.Readings.{limitOf};
-ghost use Rattle.measure.specs.Fronts.{handed, readingOf, EveryFractionMissing, digitsOf, numberFront, frontOf, fractionOf};
+ghost use Rattle.measure.specs.Fronts.{handed, readingOf, EveryFractionMissing, numberFraction, numberFront, frontOf, fractionOf};
 ghost use Rattle.measure.specs.Steps.{hasNumber, topExponent};
 use crate::Channel;
 use crate::Reading;
@@ -25,7 +25,7 @@ pub struct Front {
 // A number's sign and exponent. A NaN's bits cannot be read: it alone differs from itself, and its exponent is 255.
 fn number_front(quality: Quality, x: f32) -> Front
     ensures each { λ f. ⌜ f ≡ numberFront quality x ⌝ }
-    ensures whole { λ f. ⌜ readingOf f (digitsOf x) ≡ handed quality x ⌝ }
+    ensures whole { λ f. ⌜ readingOf f (numberFraction x) ≡ handed quality x ⌝ }
 {
     if x != x {
         return Front {

@@ -14,7 +14,7 @@ use Rattle.measure.proofs.Fronts.{minus-nan, minus-inf, minus-fin}
 use Rattle.measure.specs.Exact.{inRange, thousandths}
 use Rattle.measure.specs.Readings as readings
 use Rattle.measure.specs.Readings.{goodOf, measuredOf, convertedOf}
-use Rattle.measure.specs.Fronts.{handed, readingOf, EveryFractionMissing, minusOf, digitsOf, numberFront, frontOf, fractionOf}
+use Rattle.measure.specs.Fronts.{handed, readingOf, EveryFractionMissing, minusOf, numberFraction, numberFront, frontOf, fractionOf}
 use Rattle.measure.specs.Steps.{numberOf}
 use Rattle.measure.specs.declared.Converted.{Converted}
 use Rattle.measure.specs.declared.Measured.the-variants as measured
@@ -109,11 +109,11 @@ module _ (limit : ℕ) where
     pub part-stopped : readingOf f (fractionOf (Good x)) ≡ Good x → PartPasses limit (f .exponent) passes → passes ≡ false → r ≡ OutOfRange → r ≡ partOf limit x
     unfolding frontOf numberFront readingOf fractionOf numberOf PartPasses EveryFractionOut
     part-stopped whole told e q =
-        let number = ofFields binary32 (f .minus) (f .exponent) (digitsOf x) in
+        let number = ofFields binary32 (f .minus) (f .exponent) (numberFraction x) in
         let good : f .quality ≡ quality.Good = ap (λ (g : Front). g .quality) front in
         let reading : Good number ≡ Good x = subst (λ (k : Quality). handed k number ≡ Good x) good whole in
         let same : number ≡ x = ap numberOf reading in
-        q ∙ sym (told (f .minus) .0 e (digitsOf x) (mod-lt (toBits binary32 x) (lit< tt))) ∙ ap (partOf limit) same
+        q ∙ sym (told (f .minus) .0 e (numberFraction x) (mod-lt (toBits binary32 x) (lit< tt))) ∙ ap (partOf limit) same
 
 module _ (y : Float) (s : Bool) (x : Float) where
   pub magnitude-below : s ≡ true → y ≡ neg x → y ≡ magnitudeOf s x

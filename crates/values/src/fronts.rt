@@ -21,7 +21,7 @@ fn print_answers(c: Channel, quality: Quality, minus: bool) {
             Front {
                 quality,
                 minus,
-                exponent: (exponent % 256) as u8,
+                exponent: exponent as u8,
             },
         ));
         exponent += 1;

@@ -1,5 +1,6 @@
-// Worked values of the readings and of their first step, of pairs, of roots and the line's drop, of the setting sheet and of the tap. `stdout` has what the second program, `reference/`, prints of the
-// same values, so a run that differs shows that one of the two programs is wrong.
+// Worked values of the readings and of their first step, of pairs, of roots and the line's drop, of the setting sheet and of the tap.
+// `stdout` has what the second program, `rust/reference`, prints of the same values, so a run that differs shows that one of the two
+// programs is wrong.
 mod along;
 mod bcd;
 mod fronts;
