@@ -1,15 +1,15 @@
 -- Signed numbers by their magnitudes, as they are printed.
 -- Assumes nothing.
-use mathlib.Core.Path.{_≡_, refl, sym, ap, _∙_}
+use mathlib.Core.Path.{_≡_}
 use mathlib.Core.Bool.{true, false, true≢false}
-use Prim.Native.Nat.{ℕ, suc, _<_, _≤_, _^_}
-use native.Mathlib.Nat.{le-trans, le-of-lt, lt-of-le-of-lt}
+use Prim.Native.Nat.{ℕ, _<_, _≤_, _^_}
+use native.Mathlib.Nat.{le-of-lt, lt-of-le-of-lt}
 use native.Mathlib.Omega.{arith}
 use borrow.Author.Needs.{needs}
 use borrow.Author.Tests.{ltb-true, le-leb}
-use lib.Dec.{T, ltb, lit≤, lit<}
+use lib.Dec.{T, lit≤, lit<}
 use lib.IntN.{ℤ, pos, negsuc, natAbs, _-ℤ_}
-use lib.Signed.{ltZ, nonNeg, mag}
+use lib.Signed.{ltZ, nonNeg}
 use lib.Ieee.{binary32, inFloat}
 use mir.Syntax.{w64}
 use mir.Val.{Fits, SFits}

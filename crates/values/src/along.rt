@@ -318,9 +318,7 @@ fn draw(seed: u64) -> Drawn {
 }
 
 // What U adds to the checksum.
-fn weight(v: Value) -> u64
-    ensures { λ r. ⌜ r < 1099511627776 ⌝ }
-{
+fn weight(v: Value) -> u64 {
     match v {
         Value::Missing => 1,
         Value::Is(z) => 2 + magnitude(z) % 0x80_0000_0000,

@@ -114,7 +114,6 @@ pub(crate) fn print_listed() {
 // What a part adds to the checksum: one below 0 half a million more.
 fn weight_of(z: i64) -> u64
     requires { ⌜ natAbs z ≤ mostPart ⌝ }
-    ensures { λ r. ⌜ r < 2199023255552 ⌝ }
 {
     let n = magnitude(z);
     if z < 0 { 500_000 + n } else { 2 + n }
@@ -122,11 +121,10 @@ fn weight_of(z: i64) -> u64
 
 fn weight(v: Vector) -> u64
     requires { ⌜ Within mostPart v ⌝ }
-    ensures { λ r. ⌜ r < 1099511627776 ⌝ }
 {
     match v {
         Vector::Missing => 1,
-        Vector::Is { re, im: _ } => weight_of(re) % 0x80_0000_0000,
+        Vector::Is { re, im: _ } => weight_of(re),
     }
 }
 

