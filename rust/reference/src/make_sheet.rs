@@ -1,7 +1,7 @@
 //! Chance setting sheets that pass the check.
 
 use crate::dice::Dice;
-use crate::sheet::{is_continuous, module_k, slot, Scale, Settings, RANGES, SLOTS};
+use crate::sheet::{is_continuous, module_k, slot, Range, Scale, Settings, RANGES, SLOTS};
 use crate::tap::source;
 
 /// A sheet: ordinary, at corners of its ranges, or with long delays.
@@ -27,6 +27,7 @@ fn ordinary(dice: &mut Dice) -> Settings {
     voltages(dice, &mut settings);
     currents(dice, &mut settings);
     impedance(dice, &mut settings);
+    ratings(dice, &mut settings);
     delays(dice, &mut settings);
     taps(dice, &mut settings);
     settings
@@ -89,6 +90,36 @@ fn impedance(dice: &mut Dice, settings: &mut Settings) {
     }
 }
 
+/// Usual ratings, and usual pairs of a current transformer's and a breaker's.
+const USUAL_RATINGS: [u32; 6] = [630, 1_000, 1_250, 1_600, 2_000, 3_150];
+const USUAL_PAIRS: [(u32, u32); 8] =
+    [(2_000, 1_250), (600, 1_250), (1_500, 1_250), (1_250, 2_000), (1_000, 630), (300, 630), (3_000, 2_500), (4_000, 3_150)];
+
+/// The ratings: often equal, a usual pair or neighbours, now and then of any
+/// kind, so that U_AB can mostly make up for the drop.
+fn ratings(dice: &mut Dice, settings: &mut Settings) {
+    let usual = dice.pick(&USUAL_RATINGS);
+    let (transformer, breaker) = match dice.between(0, 19) {
+        0..=4 => (usual, usual),
+        5..=10 => dice.pick(&USUAL_PAIRS),
+        11..=15 => dice.pick(&[(usual - 1, usual), (usual, usual - 1)]),
+        _ => (any_rating(dice), any_rating(dice)),
+    };
+    settings[slot::TRANSFORMER_RATING] = transformer;
+    settings[slot::BREAKER_RATING] = breaker;
+}
+
+/// An end of the range, a usual rating, or anything.
+fn any_rating(dice: &mut Dice) -> u32 {
+    let Range { low, high, .. } = RANGES[slot::TRANSFORMER_RATING];
+    match dice.between(0, 3) {
+        0 => low,
+        1 => high,
+        2 => dice.pick(&USUAL_RATINGS),
+        _ => dice.between(low, high),
+    }
+}
+
 fn delays(dice: &mut Dice, settings: &mut Settings) {
     for t in [slot::T1, slot::T2, slot::T3, slot::T5, slot::T8] {
         let longest = dice.pick(&[24, 30, 60]);
@@ -122,11 +153,15 @@ fn taps(dice: &mut Dice, settings: &mut Settings) {
     }
 }
 
+/// Slots that are left as they are: two on which much depends, and the ratings,
+/// which at their ends would leave most ticks without a U near the band.
+const NOT_PUSHED: [usize; 4] = [slot::MODULE, slot::CONTINUOUS, slot::TRANSFORMER_RATING, slot::BREAKER_RATING];
+
 /// Moves some slots to the ends of their ranges, or anywhere within.
 fn push_to_corners(dice: &mut Dice, settings: &mut Settings) {
     let often = dice.pick(&[2, 4, 10]);
     for (i, range) in RANGES.iter().enumerate() {
-        if [slot::MODULE, slot::CONTINUOUS].contains(&i) || range.scale != Scale::Fixed || !dice.one_in(often) {
+        if NOT_PUSHED.contains(&i) || range.scale != Scale::Fixed || !dice.one_in(often) {
             continue;
         }
         let steps = (range.high - range.low) / range.step;

@@ -12,7 +12,7 @@ use crate::record::{Direction, Record};
 use crate::sheet::{is_continuous, module_k, slot, Settings};
 use crate::stretch::{others, Buttons, Level, Others, Stretch, LOWER, RAISE};
 use crate::tick::{tick, Ticked, OUTPUTS};
-use crate::voltage::{compensated, compensation, picked};
+use crate::voltage::{compensated, compensation, picked, Ratings};
 
 /// The regulator, the drive and the stretch of ticks they are in.
 pub struct Scene {
@@ -56,7 +56,7 @@ impl Scene {
     fn input(&mut self) -> Input {
         let settings = self.record.settings;
         let contacts = self.contacts(&settings);
-        if self.dice.one_in(100) {
+        if self.dice.one_in(self.stretch.others_change) {
             self.stretch.others = others(&mut self.dice, &settings);
         }
         let (scalars, parts) = self.numbers(&settings, contacts);
@@ -170,6 +170,7 @@ impl Scene {
             Level::FromLowEdge(by) => support - half + by,
             Level::FromHighEdge(by) => support + half + by,
             Level::FromSlot(slot, by) => i64::from(settings[slot]) + by,
+            Level::BesideEdges => support + self.dice.pick(&[-half, half]) + self.dice.pick(&[-1, 0, 1]),
             Level::Wander => support - 2 * half + i64::from(self.dice.between(0, 4 * half as u32)),
         }
     }
@@ -267,7 +268,7 @@ fn less(settings: &Settings, others: &[u32; SCALARS - 1]) -> i64 {
     let [_, _, _, bus, coupler] = others.map(i64::from);
     let current = picked(settings, Some(bus), Some(coupler)).expect("both are there");
     match settings[slot::COMPENSATION] {
-        compensated::BY_U_COMP => compensation(settings[slot::U_COMP], current, module_k(settings)),
+        compensated::BY_U_COMP => compensation(settings[slot::U_COMP], current, module_k(settings), Ratings::of(settings)),
         _ => 0,
     }
 }

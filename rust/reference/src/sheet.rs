@@ -3,7 +3,7 @@
 use crate::tap::source;
 
 /// How many numbers a sheet has.
-pub const SLOTS: usize = 66;
+pub const SLOTS: usize = 68;
 
 /// How many of them are sliding taps.
 pub const SLIDING_TAPS: usize = 10;
@@ -61,6 +61,9 @@ pub mod slot {
     /// R and X of the line, in mΩ.
     pub const R: usize = 64;
     pub const X: usize = 65;
+    /// The primary rating of the current transformer and of the breaker, in A.
+    pub const TRANSFORMER_RATING: usize = 66;
+    pub const BREAKER_RATING: usize = 67;
 }
 
 /// A slot takes low + a whole multiple of step, up to high.
@@ -100,6 +103,8 @@ const LONG_DELAY: Range = range(20, 36_000, 1);
 const DELAY: Range = range(0, 36_000, 1);
 const TAP: Range = range(1, 40, 1);
 const TAP_OR_EMPTY: Range = range(0, 40, 1);
+/// In A on the primary side, so the same with both modules.
+const PRIMARY_RATING: Range = range(1, 20_000, 1);
 
 /// The range of every slot.
 #[rustfmt::skip]
@@ -137,6 +142,8 @@ pub const RANGES: [Range; SLOTS] = [
     FLAG,
     // 64, 65: R, X
     IMPEDANCE, IMPEDANCE,
+    // 66, 67: ratings of the current transformer and the breaker
+    PRIMARY_RATING, PRIMARY_RATING,
 ];
 
 impl Range {

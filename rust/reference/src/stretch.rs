@@ -8,6 +8,7 @@ use crate::phasor::Phasor;
 use crate::plant::{Temper, TEMPERS};
 use crate::reading::amp_limit;
 use crate::sheet::{is_continuous, module_k, slot, Settings};
+use crate::voltage::{compensated, Ratings};
 
 /// Where the voltage stays during a stretch of ticks.
 #[derive(Clone, Copy)]
@@ -18,6 +19,8 @@ pub enum Level {
     FromHighEdge(i64),
     /// So many mV from a slot's voltage.
     FromSlot(usize, i64),
+    /// On an edge of the band or 1 mV beside it, another place each tick.
+    BesideEdges,
     /// Anywhere about the band, another place each tick.
     Wander,
 }
@@ -40,6 +43,8 @@ pub struct Stretch {
     pub temper: Temper,
     pub buttons: Buttons,
     pub others: Others,
+    /// One tick in so many has other readings than the tick before.
+    pub others_change: u32,
     /// One tick in so many has a spoiled reading or tap byte.
     pub noise: u32,
     /// A reading that U does not need is spoiled on one tick in so many.
@@ -65,11 +70,12 @@ impl Stretch {
         Stretch {
             left: dice.pick(&[1, 10, 100, 200, 300]) + dice.between(0, 100),
             contacts: steady_contacts(dice),
-            level: level(dice),
+            level: if goes_by_u_comp(settings) && dice.one_in(5) { Level::BesideEdges } else { level(dice) },
             scalar_level: Some(level(dice)).filter(|_| !dice.one_in(3)),
             temper: dice.pick(if is_continuous(settings) { &MOTOR_TEMPERS } else { &TEMPERS }),
             buttons: buttons(dice),
             others: others(dice, settings),
+            others_change: if goes_by_u_comp(settings) { dice.pick(&[100, 100, 100, 4]) } else { 100 },
             noise: dice.pick(&[0, 0, 0, 0, 200, 60, 10]),
             unneeded_noise: dice.pick(&[0, 0, 30, 3]),
             flips: dice.pick(&[0, 0, 0, 0, 300, 60, 10]),
@@ -122,9 +128,14 @@ fn buttons(dice: &mut Dice) -> Buttons {
     }
 }
 
-/// The scalars, and the currents as phasors.
+/// The scalars, and the currents as phasors. Where U goes by U_comp, the scalar
+/// currents mostly drop no more than U_AB can make up for.
 pub fn others(dice: &mut Dice, settings: &Settings) -> Others {
-    let scalars = scalars(dice, settings);
+    let mut scalars = scalars(dice, settings);
+    if goes_by_u_comp(settings) && !dice.one_in(3) {
+        let [.., bus, coupler] = &mut scalars;
+        limit_drop(dice, settings, bus, coupler);
+    }
     let [bus, coupler] = feeder::currents(dice, settings);
     Others { scalars, bus, coupler }
 }
@@ -145,6 +156,42 @@ fn scalars(dice: &mut Dice, settings: &Settings) -> [u32; 5] {
         bus.min(top),
         dice.between(0, 600 * k),
     ]
+}
+
+/// Whether U goes by U_comp and the scalar currents.
+fn goes_by_u_comp(settings: &Settings) -> bool {
+    settings[slot::COMPENSATION] == compensated::BY_U_COMP
+}
+
+/// The drop, in mV, that U_AB can make up for near most bands.
+const MOST_DROP: u64 = 60_000;
+
+/// Makes the currents that slot 4 names smaller where they drop too much. A
+/// difference often becomes negative.
+fn limit_drop(dice: &mut Dice, settings: &Settings, bus: &mut u32, coupler: &mut u32) {
+    let most = current_of_drop(MOST_DROP, settings);
+    let small = |dice: &mut Dice, current: u32, most: u32| match current > most {
+        true => dice.between(0, most),
+        false => current,
+    };
+    match settings[slot::COMPENSATION_CURRENT] {
+        0 => *bus = small(dice, *bus, most),
+        1 => *coupler = small(dice, *coupler, most),
+        2 => {
+            let apart = small(dice, bus.abs_diff(*coupler), most);
+            let top = 1_000 * amp_limit(module_k(settings));
+            *coupler = if dice.one_in(3) { bus.saturating_sub(apart) } else { (*bus + apart).min(top) };
+        }
+        _ => (*bus, *coupler) = (small(dice, *bus, most / 2), small(dice, *coupler, most / 2)),
+    }
+}
+
+/// About the current, in mA, that drops so many mV by U_comp.
+fn current_of_drop(millivolts: u64, settings: &Settings) -> u32 {
+    let Ratings { transformer, breaker } = Ratings::of(settings);
+    let product = u64::from(settings[slot::U_COMP]) * u64::from(transformer);
+    let current = millivolts * 1_000 * u64::from(module_k(settings)) * u64::from(breaker) / product;
+    current.min(u64::from(u32::MAX)) as u32
 }
 
 fn calm_or_near(dice: &mut Dice, set: u32) -> u32 {

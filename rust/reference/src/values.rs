@@ -2,6 +2,7 @@
 
 use std::io::{self, Write};
 
+use crate::floats::float_of;
 use crate::front::{Front, Quality, Sign};
 use crate::input::{Input, READINGS};
 use crate::line;
@@ -10,6 +11,7 @@ use crate::reading::{amp_limit, signed_thousandths, thousandths, Reading, VOLT_L
 use crate::record::Record;
 use crate::sheet::{check, slot, Settings, SLOTS};
 use crate::tap;
+use crate::voltage::{compensated, judge};
 
 /// A sheet that is taken, and that the worked values start from.
 #[rustfmt::skip]
@@ -29,6 +31,7 @@ pub const BASE: Settings = [
     0, 0, 0, 0, 0, 0, 0, 0, 0, 0,
     0,
     4_000, 3_000,
+    2_000, 1_250,
 ];
 
 /// Good readings against 200, by their bits.
@@ -145,8 +148,43 @@ pub const ALONG: [Along; 17] = [
     (1, 1, 1, 1, 289, -289),
 ];
 
+/// A sheet that compensates by U_comp and by bus - coupler, and the readings of
+/// one tick, in mV and mA.
+#[derive(Clone, Copy, Debug)]
+pub struct Comp {
+    /// Slot 1's number.
+    pub module: u32,
+    pub u_comp: u32,
+    pub transformer: u32,
+    pub breaker: u32,
+    pub u_ab: u32,
+    pub i_bus: u32,
+    pub i_coupler: u32,
+}
+
+const fn comp([module, u_comp, transformer, breaker, u_ab, i_bus, i_coupler]: [u32; 7]) -> Comp {
+    Comp { module, u_comp, transformer, breaker, u_ab, i_bus, i_coupler }
+}
+
+/// Ticks of which U by U_comp is shown.
+pub const COMPS: [Comp; 13] = [
+    comp([1, 5_100, 1_250, 1_250, 100_000, 1, 4]),
+    comp([1, 5_100, 2_000, 1_250, 100_000, 1, 4]),
+    comp([1, 5_100, 2_000, 1_250, 100_000, 4, 1]),
+    comp([1, 5_100, 1_250, 2_000, 100_000, 1, 4]),
+    comp([0, 5_100, 2_000, 1_250, 100_000, 1, 4]),
+    comp([1, 5_100, 2_000, 1_250, 100_000, 0, 37]),
+    comp([1, 5_100, 2_000, 1_250, 100_000, 7, 7]),
+    comp([1, 1_000, 1, 20_000, 100_000, 200_000, 0]),
+    comp([1, 1_000, 1, 20_000, 100_000, 199_999, 0]),
+    comp([0, 30_000, 1_999, 2_000, 100_000, 1_000, 0]),
+    comp([1, 40_000, 20_000, 20_000, 100_000, 200_000, 0]),
+    comp([1, 40_000, 20_000, 1, 200_000, 0, 200_000]),
+    comp([0, 40_000, 20_000, 1, 0, 40_000, 0]),
+];
+
 /// Numbers tried in every slot.
-const TRIED: [u32; 49] = [
+const TRIED: [u32; 51] = [
     0,
     1,
     2,
@@ -196,6 +234,8 @@ const TRIED: [u32; 49] = [
     80_001,
     400_000,
     400_001,
+    20_000,
+    20_001,
 ];
 
 /// Checksums are taken modulo this.
@@ -211,6 +251,8 @@ pub fn print(out: &mut impl Write) -> io::Result<()> {
     print_roots(out)?;
     print_along(out)?;
     print_generated_along(out)?;
+    print_comps(out)?;
+    print_generated_comps(out)?;
     print_sheets(out)?;
     print_slots(out, "slot", &BASE)?;
     print_slots(out, "slot5", &base_5a())?;
@@ -402,6 +444,49 @@ fn print_generated_along(out: &mut impl Write) -> io::Result<()> {
         sum = (sum * 31 + 2 + u.unsigned_abs()) % MODULUS;
     }
     writeln!(out, "along 20000 {sum}")
+}
+
+fn print_comps(out: &mut impl Write) -> io::Result<()> {
+    for comp in COMPS {
+        let Comp { module, u_comp, transformer, breaker, u_ab, i_bus, i_coupler } = comp;
+        let current = i64::from(i_bus) - i64::from(i_coupler);
+        writeln!(out, "comp {module} {u_comp} {transformer} {breaker} {u_ab} {current} {}", u_by_u_comp(comp))?;
+    }
+    Ok(())
+}
+
+/// U of this tick, by rule 6 as a whole.
+pub fn u_by_u_comp(comp: Comp) -> i64 {
+    let mut settings = BASE;
+    settings[slot::MODULE] = comp.module;
+    settings[slot::COMPENSATION] = compensated::BY_U_COMP;
+    settings[slot::COMPENSATION_CURRENT] = 2;
+    settings[slot::U_COMP] = comp.u_comp;
+    settings[slot::TRANSFORMER_RATING] = comp.transformer;
+    settings[slot::BREAKER_RATING] = comp.breaker;
+    let good = |number| Reading::Good(float_of(number));
+    let mut input = Input::of([Reading::Invalid; READINGS], 0, 0, 0);
+    (input.u_ab, input.i_bus, input.i_coupler) = (good(comp.u_ab), good(comp.i_bus), good(comp.i_coupler));
+    judge(&settings, &input).u.expect("readings in range")
+}
+
+/// A checksum over U by U_comp of 20,000 generated ticks with the 5 A module.
+fn print_generated_comps(out: &mut impl Write) -> io::Result<()> {
+    let mut seed = FIRST_SEED;
+    let mut sum: u64 = 7;
+    for _ in 0..20_000 {
+        let [a, b, c, d, e, f] = [(); 6].map(|()| {
+            seed = next_seed(seed);
+            seed as u32
+        });
+        let rating = |drawn| 1 + drawn % 20_000;
+        let reading = |drawn| drawn % 200_001;
+        let u_comp = 1_000 + 100 * (a % 391);
+        let u = u_by_u_comp(comp([1, u_comp, rating(b), rating(c), reading(d), reading(e), reading(f)]));
+        let folded = if u >= 0 { 2 + 2 * u.unsigned_abs() } else { 3 + 2 * u.unsigned_abs() };
+        sum = (sum * 31 + folded % MODULUS) % MODULUS;
+    }
+    writeln!(out, "comp 20000 {sum}")
 }
 
 fn print_sheets(out: &mut impl Write) -> io::Result<()> {

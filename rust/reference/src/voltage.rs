@@ -60,7 +60,7 @@ fn less_u_comp(settings: &Settings, input: &Input) -> Option<i64> {
     let bus = input.i_bus.good(amps).map(i64::from);
     let coupler = input.i_coupler.good(amps).map(i64::from);
     let current = picked(settings, bus, coupler)?;
-    Some(u_ab(input)? - compensation(settings[slot::U_COMP], current, k))
+    Some(u_ab(input)? - compensation(settings[slot::U_COMP], current, k, Ratings::of(settings)))
 }
 
 /// Ticket 3's U, by the pairs alone: U_AB itself is not needed.
@@ -81,9 +81,26 @@ pub fn picked<I: Add<Output = I> + Sub<Output = I>>(settings: &Settings, bus: Op
     }
 }
 
-/// U_comp x I / (1,000 k), rounded toward zero.
-pub fn compensation(u_comp: u32, current: i64, k: u32) -> i64 {
-    i64::from(u_comp) * current / (1_000 * i64::from(k))
+/// The primary ratings of the current transformer and the breaker, in A.
+#[derive(Clone, Copy, Debug, PartialEq, Eq)]
+pub struct Ratings {
+    pub transformer: u32,
+    pub breaker: u32,
+}
+
+impl Ratings {
+    /// Those of slots 66 and 67.
+    pub fn of(settings: &Settings) -> Ratings {
+        Ratings { transformer: settings[slot::TRANSFORMER_RATING], breaker: settings[slot::BREAKER_RATING] }
+    }
+}
+
+/// Ticket 5's drop, in mV: "U_comp × I × slot 66, divided once by 1,000k × slot
+/// 67, toward zero". On sheets that are taken the product is at most 40,000 ×
+/// 400,000 × 20,000, below 2^49.
+pub fn compensation(u_comp: u32, current: i64, k: u32, ratings: Ratings) -> i64 {
+    let product = i64::from(u_comp) * current * i64::from(ratings.transformer);
+    product / (1_000 * i64::from(k) * i64::from(ratings.breaker))
 }
 
 /// U_supp of the highest set bit of 18, 17, 16, else U_supp 1.

@@ -9,7 +9,7 @@ use reference::organs::{count, mark, Watch};
 use reference::reading::thousandths;
 use reference::record::{Drive, Fault, Organ, Side};
 use reference::sheet::slot;
-use reference::voltage::{compensation, side_of};
+use reference::voltage::{compensation, side_of, Ratings};
 
 fn volts(bits: u32) -> Option<u32> {
     thousandths(f32::from_bits(bits), 200)
@@ -59,10 +59,13 @@ fn band_in_a_tick() {
     }
 }
 
+/// 01's case.
+const EQUAL: Ratings = Ratings { transformer: 1_250, breaker: 1_250 };
+
 #[test]
 fn compensation_rounds_toward_zero() {
-    assert_eq!(compensation(5_100, -3, 5), -3);
-    assert_eq!(compensation(5_100, 3, 5), 3);
+    assert_eq!(compensation(5_100, -3, 5, EQUAL), -3);
+    assert_eq!(compensation(5_100, 3, 5, EQUAL), 3);
 }
 
 #[test]
@@ -75,6 +78,8 @@ fn compensation_of_minus_3_raises_u_by_3() {
         (slot::I_SET1, 5_000),
         (slot::I_SET2, 5_000),
         (slot::I_SET3, 500),
+        (slot::TRANSFORMER_RATING, 1_250),
+        (slot::BREAKER_RATING, 1_250),
     ];
     let mut input = auto(98_997, &[]);
     input.i_bus = good(600);
@@ -204,7 +209,7 @@ fn band_edge_is_outside() {
 
 #[test]
 fn minus_3_06_is_not_minus_4() {
-    assert_ne!(compensation(5_100, -3, 5), -4);
+    assert_ne!(compensation(5_100, -3, 5, EQUAL), -4);
 }
 
 #[test]

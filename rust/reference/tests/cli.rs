@@ -9,7 +9,8 @@ use reference::record::Record;
 use reference::recording::{sheet_from_bytes, sheet_to_bytes, READING_BYTES, SHEET_BYTES, TICK_BYTES};
 use reference::scene::Scene;
 use reference::sheet::SLOTS;
-use reference::values::{AGAINST_200, AGAINST_40, ALONG, BASE, HELD_AGAINST_200, PARTS_AGAINST_200, PARTS_AGAINST_40, ROOTS};
+use reference::values::{AGAINST_200, AGAINST_40, ALONG, BASE, COMPS, HELD_AGAINST_200};
+use reference::values::{PARTS_AGAINST_200, PARTS_AGAINST_40, ROOTS};
 
 fn reference(words: &[&str]) -> Output {
     Command::new(env!("CARGO_BIN_EXE_reference")).args(words).output().unwrap()
@@ -54,7 +55,8 @@ fn values_have_all_their_lines() {
     let readings = AGAINST_200.len() + AGAINST_40.len() + HELD_AGAINST_200.len();
     let parts = PARTS_AGAINST_200.len() + PARTS_AGAINST_40.len();
     let ticket_3 = parts + 1 + ROOTS.len() + ALONG.len() + 1;
-    assert_eq!(lines.lines().count(), readings + 1 + FRONTS + ticket_3 + 4 + 3 * SLOTS + 256);
+    let ticket_5 = COMPS.len() + 1;
+    assert_eq!(lines.lines().count(), readings + 1 + FRONTS + ticket_3 + ticket_5 + 4 + 3 * SLOTS + 256);
     assert!(lines.starts_with("reading 200 1120416563 100100\nreading 200 1128792064 200000\n"));
     assert!(lines.contains("\nreading 200 1128792064 200000\nreading 200 1031798784 63\nreadings 20000 "));
     assert!(lines.contains("\nsheet 0 0\nsheet 1 0\nsheet 1 0\nsheet 1 0\nslot 0 "));
@@ -62,7 +64,7 @@ fn values_have_all_their_lines() {
     let blocks: Vec<(&str, usize)> = words.chunk_by(|a, b| a == b).map(|block| (block[0], block.len())).collect();
     let before = [("reading", readings), ("readings", 1), ("front", FRONTS), ("part", parts), ("parts", 1)];
     assert_eq!(blocks[..5], before);
-    let along = [("root", ROOTS.len()), ("along", ALONG.len() + 1)];
+    let along = [("root", ROOTS.len()), ("along", ALONG.len() + 1), ("comp", ticket_5)];
     let after = [("sheet", 4), ("slot", SLOTS), ("slot5", SLOTS), ("continuous", SLOTS), ("bcd", 256)];
     assert_eq!(blocks[5..], [&along[..], &after].concat());
 }
@@ -83,9 +85,32 @@ fn values_of_parts_roots_and_lines() {
 }
 
 #[test]
+fn values_by_u_comp() {
+    let lines = text(&reference(&["values"]).stdout);
+    let comps: Vec<&str> = lines.lines().filter(|line| line.starts_with("comp ")).collect();
+    let expected = [
+        "comp 1 5100 1250 1250 100000 -3 100003",
+        "comp 1 5100 2000 1250 100000 -3 100004",
+        "comp 1 5100 2000 1250 100000 3 99996",
+        "comp 1 5100 1250 2000 100000 -3 100001",
+        "comp 0 5100 2000 1250 100000 -3 100024",
+        "comp 1 5100 2000 1250 100000 -37 100060",
+        "comp 1 5100 2000 1250 100000 0 100000",
+        "comp 1 1000 1 20000 100000 200000 99998",
+        "comp 1 1000 1 20000 100000 199999 99999",
+        "comp 0 30000 1999 2000 100000 1000 70015",
+        "comp 1 40000 20000 20000 100000 200000 -1500000",
+        "comp 1 40000 20000 1 200000 -200000 32000200000",
+        "comp 0 40000 20000 1 0 40000 -32000000000",
+    ];
+    assert_eq!(comps[..13], expected);
+    assert!(comps[13].starts_with("comp 20000 ") && comps.len() == 14);
+}
+
+#[test]
 fn the_layout() {
     let output = reference(&["layout"]);
-    assert_eq!(text(&output.stdout), "SHEET_BYTES=264\nREADING_BYTES=5\nTICK_BYTES=66\n");
+    assert_eq!(text(&output.stdout), "SHEET_BYTES=272\nREADING_BYTES=5\nTICK_BYTES=66\n");
 }
 
 #[test]

@@ -53,6 +53,18 @@ fn settings() {
 }
 
 #[test]
+fn ratings_whatever_slot_3_is() {
+    for rating in [slot::TRANSFORMER_RATING, slot::BREAKER_RATING] {
+        for compensation in [0, 1, 2] {
+            for (number, within) in [(0, false), (1, true), (20_000, true), (20_001, false)] {
+                let changed = |r: &mut Record| (r.settings[slot::COMPENSATION], r.settings[rating]) = (compensation, number);
+                assert_eq!(holds(changed), within, "slot {rating}: {number}");
+            }
+        }
+    }
+}
+
+#[test]
 fn wait() {
     assert!(holds(|r| r.wait = Wait::to(Side::Low, 35_999)));
     assert!(holds(|r| r.wait = Wait::to(Side::High, 35_999)));

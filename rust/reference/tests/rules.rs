@@ -388,10 +388,20 @@ fn band_edges_by_the_nearest() {
     }
 }
 
+/// By U_comp and this current of slot 4, with equal ratings.
+fn by_u_comp(current: u32) -> [(usize, u32); 4] {
+    [
+        (slot::COMPENSATION, 1),
+        (slot::COMPENSATION_CURRENT, current),
+        (slot::TRANSFORMER_RATING, 2_000),
+        (slot::BREAKER_RATING, 2_000),
+    ]
+}
+
 #[test]
 fn compensation_by_the_nearest_current() {
     // U_comp 5,000 mV at 1 A: 400 mA take 2,000 mV, which brings U to the low edge.
-    let sheet = [(slot::COMPENSATION, 1), (slot::COMPENSATION_CURRENT, 0)];
+    let sheet = by_u_comp(0);
     for (amps, low) in [(0.3994, 0), (0.3996, 1), (0.4004, 1)] {
         let mut input = auto(101_000, &[]);
         input.i_bus = Reading::Good(amps);
@@ -402,7 +412,7 @@ fn compensation_by_the_nearest_current() {
 /// Whether U is missing: with the section there and no organ tripped, only
 /// that blocks automatic.
 fn u_missing(current: u32, change: impl Fn(&mut Input)) -> bool {
-    let sheet = [(slot::COMPENSATION, 1), (slot::COMPENSATION_CURRENT, current)];
+    let sheet = by_u_comp(current);
     let mut input = auto(100_000, &[]);
     change(&mut input);
     let outputs = step(&mut fresh(&sheet), &input);
@@ -425,7 +435,7 @@ fn only_the_needed_currents_must_be_good() {
 fn compensation_by_each_current() {
     // U_comp 5,000 mV at 1 A; bus 400 mA, coupler 100 mA.
     for (current, less) in [(0, 2_000), (1, 500), (2, 1_500), (3, 2_500)] {
-        let sheet = [(slot::COMPENSATION, 1), (slot::COMPENSATION_CURRENT, current)];
+        let sheet = by_u_comp(current);
         for (millivolts, low) in [(99_000 + less, 1), (99_001 + less, 0)] {
             let mut input = auto(millivolts, &[]);
             (input.i_bus, input.i_coupler) = (good(400), good(100));

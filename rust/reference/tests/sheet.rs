@@ -19,10 +19,10 @@ fn changed(base: &Settings, slot: usize, number: u32) -> Settings {
 
 #[test]
 fn a_list_of_another_length() {
-    assert_eq!(SLOTS, 66);
+    assert_eq!(SLOTS, 68);
     for length in 0..=130 {
         let list: Vec<u32> = BASE.into_iter().cycle().take(length).collect();
-        assert_eq!(refused(&list), if length == 66 { (0, 0) } else { (1, 0) }, "{length} numbers");
+        assert_eq!(refused(&list), if length == 68 { (0, 0) } else { (1, 0) }, "{length} numbers");
     }
     assert_eq!(refused(&[]), (1, 0));
     assert_eq!(refused(&BASE[..SLOTS - 1]), (1, 0));
@@ -60,6 +60,7 @@ fn paper_row(i: usize, k: u32) -> (u32, u32, u32) {
         63 => (0, 1, 1),
         64 | 65 if k == 5 => (0, 80_000, 1),
         64 | 65 => (0, 400_000, 1),
+        66 | 67 => (1, 20_000, 1),
         _ => unreachable!(),
     }
 }
@@ -127,6 +128,48 @@ fn r_and_x_go_with_the_module() {
     }
 }
 
+/// Both slots of ticket 5, with numbers at and past the ends of their range.
+fn rating_rows() -> impl Iterator<Item = (usize, u32, bool)> {
+    let numbers = [(0, false), (1, true), (2, true), (19_999, true), (20_000, true), (20_001, false), (u32::MAX, false)];
+    [66, 67].into_iter().flat_map(move |slot| numbers.map(|(number, taken)| (slot, number, taken)))
+}
+
+#[test]
+fn ratings_are_1_to_20_000_whatever_the_module() {
+    assert_eq!((slot::TRANSFORMER_RATING, slot::BREAKER_RATING), (66, 67));
+    for (slot, number, taken) in rating_rows() {
+        let answer = if taken { (0, 0) } else { (2, slot as u32) };
+        for base in [BASE, base_5a()] {
+            for compensation in [0, 1, 2] {
+                let list = changed(&base, slot::COMPENSATION, compensation);
+                assert_eq!(refused(&changed(&list, slot, number)), answer, "slot {slot}: {number}");
+            }
+        }
+    }
+}
+
+#[test]
+fn ratings_are_tested_in_the_order_of_the_slots() {
+    for bad in [0, 20_001] {
+        let mut list = changed(&changed(&BASE, 66, bad), 67, bad);
+        assert_eq!(refused(&list), (2, 66));
+        list[65] = 400_001;
+        assert_eq!(refused(&list), (2, 65));
+        list[3] = 3;
+        assert_eq!(refused(&list), (2, 3));
+    }
+    // Before 3 and 5, and after 1.
+    for (slot, number, taken) in rating_rows() {
+        let refusal = |otherwise| if taken { otherwise } else { (2, slot as u32) };
+        let taps = changed(&BASE, slot::N_L, 40);
+        assert_eq!(refused(&changed(&taps, slot, number)), refusal((3, 49)));
+        let position = changed(&BASE, slot::N_L, 21);
+        assert_eq!(refused(&changed(&position, slot, number)), refusal((3, 48)));
+        assert_eq!(refused(&changed(&base_continuous(), slot, number)), refusal((5, 63)));
+        assert_eq!(refused(&changed(&BASE, slot, number)[..67]), (1, 0));
+    }
+}
+
 #[test]
 fn slot_3_takes_2_and_not_3() {
     for base in [BASE, base_5a()] {
@@ -178,8 +221,9 @@ fn refusals_2_and_3_come_before_5() {
     assert_eq!(refused(&changed(&list, slot::N_L, 21)), (3, 48));
     let longer = [list.as_slice(), &[0]].concat();
     assert_eq!(refused(&longer), (1, 0));
-    assert_eq!(refused(&list[..65]), (1, 0));
+    assert_eq!(refused(&list[..67]), (1, 0));
     assert_eq!(refused(&changed(&list, slot::X, 400_001)), (2, 65));
+    assert_eq!(refused(&changed(&list, slot::BREAKER_RATING, 0)), (2, 67));
 }
 
 #[test]
