@@ -2,3 +2,4 @@ pub mod Halves
 pub mod Values
 pub mod Bands
 pub mod Laws
+pub mod Facts

@@ -1,11 +1,11 @@
 -- The definitions that go by a reading's kind or by whether a number is missing, as `search` follows them: `search
 -- values`, `search drops`, `search limits`.
 -- Assumes nothing.
-use mathlib.Core.Path.{_≡_, ap}
-use mathlib.Core.Bool.{Bool, false}
+use mathlib.Core.Path.{_≡_, refl, sym, ap, _∙_}
+use mathlib.Core.Bool.{Bool, true, false, _&&_}
 use mathlib.Core.List.{List}
 use Prim.Native.Nat.{ℕ, _+_, _*_, _<_, _≤_, _^_}
-use native.Mathlib.Nat.{le-trans}
+use native.Mathlib.Nat.{le-trans, mul-le-mul, mul-pos}
 use native.Mathlib.Omega.{arith}
 use borrow.Author.Needs.{needs}
 use borrow.Author.Tests.{leb-true}
@@ -15,19 +15,20 @@ use lib.Signed.{ltZ, quotZ}
 use mir.Syntax.{w64}
 use mir.Val.{SFits, toZ}
 use mir.Facts.{toZ-ofZ}
-use Rattle.common.proofs.Cases.{cases, chosen}
-use Rattle.slots.specs.Slots.{slot, dU, uComp, uSet5, moduleKind, compensationCurrent}
+use Rattle.common.proofs.Cases.{cases, chosen, yes-told, no-told}
+use Rattle.common.proofs.Joined.{and-left, and-right}
+use Rattle.slots.specs.Slots.{slot, dU, uComp, uSet5, moduleKind, compensationCurrent, ctRating, breakerRating}
 use Rattle.measure.specs.declared.Measured.{Measured}
 use Rattle.measure.specs.declared.Measured.the-variants as measured
 use Rattle.sheet.specs.Table.{moduleFactor}
 use Rattle.busbar.specs.Section.{goodAbove}
-use Rattle.busbar.specs.Voltage.{highest, readingOf, goodOf, both, sumOf, differenceOf, currentOf, dropOf, voltageDrop, Within}
+use Rattle.busbar.specs.Voltage.{highest, readingOf, goodOf, both, sumOf, differenceOf, currentOf, mostComp, mostRating, dropOf, isRating, isRated, voltageDrop, Within}
 use Rattle.busbar.specs.Deviation.{bandOf, levelOf, farAbove}
 use Rattle.busbar.specs.declared.voltage.Level.{Level}
 use Rattle.busbar.specs.declared.voltage.Level.the-variants as level
 use Rattle.busbar.specs.declared.voltage.Value.{Value}
 use Rattle.busbar.specs.declared.voltage.Value.the-variants.{Missing, Is}
-use Rattle.common.proofs.Signed.{natAbs-add, natAbs-sub, Stands, exactly, small, fits, read, back, cast, add, sub, mul, quot}
+use Rattle.common.proofs.Signed.{natAbs-add, natAbs-sub, Stands, exactly, small, fits, read, back, cast, cast-to, add, sub, mul, quot}
 
 -- ---- section
 
@@ -126,25 +127,69 @@ current-within r s bus coupler e =
 
 -- ---- the drop
 
-module _ (comp : ℕ) (i : ℤ) (k : ℕ) (small-comp : comp < 2 ^ 32) (small-i : natAbs i ≤ 400000) (small-k : k ≤ 5) where
-  product : Stands (toZ w64 comp *ℤ read i) (pos comp *ℤ i) (2 ^ 32 * 400000)
-  product = mul (cast small-comp) (back (exactly i small-i) tt)
+-- 1,000k × the breaker's rating
+module _ (k breaker : ℕ) where
+  pub divisor-positive : 0 < k → 0 < breaker → 0 < 1000 * k * breaker
+  divisor-positive h l = mul-pos (omega (arith, h)) l
 
-  quotient : Stands (quotZ (read (toZ w64 comp *ℤ read i)) (toZ w64 (1000 * k))) (dropOf comp i k) (2 ^ 32 * 400000)
-  unfolding dropOf
-  quotient = quot (back product tt) (cast (omega arith))
+  module _ (small-k : k ≤ 5) (small-breaker : breaker ≤ mostRating) where
+    divisor-le : 1000 * k * breaker ≤ 5000 * mostRating
+    divisor-le = mul-le-mul {n₂ = 5000} (omega arith) small-breaker
+
+    pub divisor-fits : 1000 * k * breaker < 2 ^ 32
+    divisor-fits = omega (arith, divisor-le)
+
+    pub divisor-signed : SFits w64 (pos (1000 * k * breaker))
+    divisor-signed = record { sfits = omega (arith, divisor-le) }
+
+module _ (comp : ℕ) (i : ℤ) (ct : ℕ) (small-comp : comp ≤ mostComp) (small-i : natAbs i ≤ 400000) (small-ct : ct ≤ mostRating) where
+  product : Stands (toZ w64 comp *ℤ read i) (pos comp *ℤ i) (mostComp * 400000)
+  product = mul (cast-to mostComp small-comp tt) (back (exactly i small-i) tt)
+
+  rated : Stands (read (toZ w64 comp *ℤ read i) *ℤ toZ w64 ct) (pos comp *ℤ i *ℤ pos ct) (mostComp * 400000 * mostRating)
+  rated = mul (back product tt) (cast-to mostRating small-ct tt)
 
   pub product-fits : SFits w64 (toZ w64 comp *ℤ read i)
   product-fits = fits product tt
 
-  pub quotient-fits : SFits w64 (quotZ (read (toZ w64 comp *ℤ read i)) (toZ w64 (1000 * k)))
-  quotient-fits = fits quotient tt
+  pub rated-fits : SFits w64 (read (toZ w64 comp *ℤ read i) *ℤ toZ w64 ct)
+  rated-fits = fits rated tt
 
-  pub drop-is : read (quotZ (read (toZ w64 comp *ℤ read i)) (toZ w64 (1000 * k))) ≡ dropOf comp i k
-  drop-is = back quotient tt .is
+  module _ (k breaker : ℕ) (small-k : k ≤ 5) (small-breaker : breaker ≤ mostRating) where
+    quotient : Stands (quotZ (read (read (toZ w64 comp *ℤ read i) *ℤ toZ w64 ct)) (toZ w64 (1000 * k * breaker))) (dropOf comp i k ct breaker) (mostComp * 400000 * mostRating)
+    unfolding dropOf
+    quotient = quot (back rated tt) (cast (divisor-fits k breaker small-k small-breaker))
 
-  pub drop-small : natAbs (read (quotZ (read (toZ w64 comp *ℤ read i)) (toZ w64 (1000 * k)))) ≤ 2 ^ 60
-  drop-small = le-trans (small (back quotient tt)) (lit≤ tt)
+    pub quotient-fits : SFits w64 (quotZ (read (read (toZ w64 comp *ℤ read i) *ℤ toZ w64 ct)) (toZ w64 (1000 * k * breaker)))
+    quotient-fits = fits quotient tt
+
+    pub drop-is : read (quotZ (read (read (toZ w64 comp *ℤ read i) *ℤ toZ w64 ct)) (toZ w64 (1000 * k * breaker))) ≡ dropOf comp i k ct breaker
+    drop-is = back quotient tt .is
+
+    pub drop-small : natAbs (read (quotZ (read (read (toZ w64 comp *ℤ read i) *ℤ toZ w64 ct)) (toZ w64 (1000 * k * breaker)))) ≤ 2 ^ 60
+    drop-small = le-trans (small (back quotient tt)) (lit≤ tt)
+
+-- settings that were found to be rated
+module _ (s : List ℕ) (t : Bool) (e : t ≡ isRated s) (p : t ≡ true) where
+  ratings : (isRating (slot s ctRating) && isRating (slot s breakerRating)) ≡ true
+  unfolding isRated
+  ratings = and-right (leb (slot s uComp) mostComp) _ (sym e ∙ p)
+
+  pub comp-le : slot s uComp ≤ mostComp
+  unfolding isRated
+  comp-le = leb-true _ _ (and-left _ _ (sym e ∙ p))
+
+  pub ct-le : slot s ctRating ≤ mostRating
+  unfolding isRating
+  ct-le = leb-true _ _ (and-right (leb 1 (slot s ctRating)) _ (and-left _ _ ratings))
+
+  pub breaker-positive : 0 < slot s breakerRating
+  unfolding isRating
+  breaker-positive = leb-true _ _ (and-left _ _ (and-right (isRating (slot s ctRating)) _ ratings))
+
+  pub breaker-le : slot s breakerRating ≤ mostRating
+  unfolding isRating
+  breaker-le = leb-true _ _ (and-right (leb 1 (slot s breakerRating)) _ (and-right (isRating (slot s ctRating)) _ ratings))
 
 pub rating-positive : (r : ℕ) (s : List ℕ) → r ≡ moduleFactor s → 0 < r
 unfolding moduleFactor
@@ -162,13 +207,17 @@ module _ (s : List ℕ) (v : Value) where
   unfolding voltageDrop
   drop-missing p = rw p
 
-  pub drop-made : (z r : ℤ) (k : ℕ) → v ≡ Is z → Within 400000 v → k ≡ moduleFactor s → r ≡ dropOf (slot s uComp) (read z) k → natAbs r ≤ 2 ^ 60
-      → Is (read r) ≡ voltageDrop s v
+  pub drop-unrated : (z : ℤ) (t : Bool) → v ≡ Is z → t ≡ isRated s → t ≡ false → Missing ≡ voltageDrop s v
   unfolding voltageDrop
-  drop-made z r k p h e q l =
+  drop-unrated z t p e u = rw p (no-told Missing _ _ t (isRated s) e u refl)
+
+  pub drop-made : (z r : ℤ) (k : ℕ) (t : Bool) → v ≡ Is z → Within 400000 v → t ≡ isRated s → t ≡ true → k ≡ moduleFactor s
+      → r ≡ dropOf (slot s uComp) (read z) k (slot s ctRating) (slot s breakerRating) → natAbs r ≤ 2 ^ 60 → Is (read r) ≡ voltageDrop s v
+  unfolding voltageDrop
+  drop-made z r k t p h u y e q l =
       let here : read z ≡ z = back (exactly z (within-is 400000 v z p h)) tt .is in
       let there : read r ≡ r = back (exactly r l) tt .is in
-      rw p (cc)
+      rw p (yes-told (Is (read r)) _ _ t (isRated s) u y (cc))
 
   pub drop-of : (r j : Value) → r ≡ voltageDrop s j → j ≡ v → r ≡ voltageDrop s v
   drop-of r j e p = cc
@@ -223,14 +272,23 @@ pub ruleset values = (
 )
 
 pub ruleset drops = (
+  divisor-positive,
+  divisor-fits,
+  divisor-signed,
   product-fits,
+  rated-fits,
   quotient-fits,
   drop-is,
   drop-small,
   rating-positive,
   rating-le,
   current-read,
+  comp-le,
+  ct-le,
+  breaker-positive,
+  breaker-le,
   drop-missing,
+  drop-unrated,
   drop-made,
   missing-within,
   drop-within,

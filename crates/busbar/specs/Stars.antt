@@ -1,4 +1,6 @@
--- The worked values of rule 6, as one list and one statement (01, 'Bench values'; the last rows go beyond the paper's).
+-- The worked values of rule 6, as one list and one statement (01, 'Bench values'; the values of U, and of the drop by two ratings, go
+-- beyond the paper's).
+-- A sheet that gives no ratings has 1,250 A for both, which is 01's case.
 use mathlib.Core.Path.{_≡_, refl}
 use mathlib.Core.Bool.{false}
 use mathlib.Core.List.{List, [], _∷_, map}
@@ -6,11 +8,11 @@ use Prim.Native.Nat.{ℕ}
 use lib.IntN.{ℤ, pos, negsuc}
 use lib.ListN.{set, replicate}
 use Rattle.common.specs.Choice.{choose}
-use Rattle.slots.specs.Slots.{slots, moduleKind, compensation, compensationCurrent, uSupp, dU, uComp}
+use Rattle.slots.specs.Slots.{slots, moduleKind, compensation, compensationCurrent, uSupp, dU, uComp, ctRating, breakerRating}
 use Rattle.measure.specs.declared.Measured.{Measured}
 use Rattle.measure.specs.declared.Measured.the-variants.{Good, Held}
 use Rattle.sheet.specs.Table.{moduleFactor}
-use Rattle.busbar.specs.Voltage.{goodOf, both, currentOf, dropOf, voltageDrop, voltageOf}
+use Rattle.busbar.specs.Voltage.{goodOf, both, currentOf, dropOf, isRating, isRated, voltageDrop, voltageOf}
 use Rattle.busbar.specs.Deviation.{supplyOf, lowOf, highOf, bandOf, levelOf}
 use Rattle.busbar.specs.declared.voltage.Level.{Level}
 use Rattle.busbar.specs.declared.voltage.Level.the-variants.{Low, InBand, High}
@@ -29,10 +31,12 @@ sheet ((i is n) ∷ rest) = set (sheet rest) i n
 
 -- U_supp, dU and U, and U's level
 -- U_comp, the module's slot and I, and the drop
+-- the same with the current transformer's rating over the breaker's (02, ticket 5)
 -- U_comp, the module's slot, U_AB, I_bus and I_coupler with I their difference, and U
 pub data Star : Type 0 where
   levelStar : ℕ → ℕ → ℕ → Level → Star
   dropStar : ℕ → ℕ → ℤ → ℤ → Star
+  ratedStar : ℕ → ℕ → ℕ → ℕ → ℤ → ℤ → Star
   voltageStar : ℕ → ℕ → Measured → Measured → Measured → Value → Star
 
 abbrev pub stars : List Star
@@ -42,6 +46,14 @@ stars =
     ∷ levelStar 100000 2000 100999 InBand
     ∷ levelStar 100000 2000 101000 High
     ∷ dropStar 5100 1 (negsuc 2) (negsuc 2)
+    -- −30,600,000 over 6,250,000 is −4.896
+    ∷ ratedStar 5100 1 2000 1250 (negsuc 2) (negsuc 3)
+    -- with the ratings the other way round −19,125,000 over 10,000,000, that is −1.9125
+    ∷ ratedStar 5100 1 1250 2000 (negsuc 2) (negsuc 0)
+    -- −60.384; divided first by 1,000k it would be −37, and then −59
+    ∷ ratedStar 5100 1 2000 1250 (negsuc 36) (negsuc 59)
+    -- the largest that a sheet and readings give
+    ∷ ratedStar 40000 0 20000 1 (pos 80000) (pos 64000000000)
     ∷ voltageStar 5100 1 (Good 100000) (Good 1) (Good 4) (Is (pos 100003))
     ∷ voltageStar 5100 1 (Good 100000) (Good 4) (Good 1) (Is (pos 99997))
     ∷ voltageStar 5100 0 (Good 100000) (Good 1) (Good 4) (Is (pos 100015))
@@ -56,19 +68,26 @@ pub data Shown : Type 0 where
 abbrev pub expected : Star → Shown
 expected (levelStar supp d u l) = isLevel l
 expected (dropStar comp kind i z) = isValue (Is z)
+expected (ratedStar comp kind ct breaker i z) = isValue (Is z)
 expected (voltageStar comp kind ab bus coupler u) = isValue u
 
 abbrev pub levelSheet : ℕ → ℕ → List ℕ
 levelSheet supp d = sheet ((uSupp is supp) ∷ (dU is d) ∷ [])
 
+abbrev pub ratedSheet : ℕ → ℕ → ℕ → ℕ → List ℕ
+ratedSheet comp kind ct breaker =
+    sheet
+    ((uComp is comp) ∷ (moduleKind is kind) ∷ (compensation is 1) ∷ (compensationCurrent is 2) ∷ (ctRating is ct) ∷ (breakerRating is breaker) ∷ [])
+
 abbrev pub dropSheet : ℕ → ℕ → List ℕ
-dropSheet comp kind = sheet ((uComp is comp) ∷ (moduleKind is kind) ∷ (compensation is 1) ∷ (compensationCurrent is 2) ∷ [])
+dropSheet comp kind = ratedSheet comp kind 1250 1250
 
 abbrev pub found : Star → Shown
 found (levelStar supp d u l) = isLevel (levelOf (levelSheet supp d) (Is (pos u)) (supplyOf (levelSheet supp d) false false false))
 found (dropStar comp kind i z) = isValue (voltageDrop (dropSheet comp kind) (Is i))
+found (ratedStar comp kind ct breaker i z) = isValue (voltageDrop (ratedSheet comp kind ct breaker) (Is i))
 found (voltageStar comp kind ab bus coupler u) = isValue (voltageOf (dropSheet comp kind) ab bus coupler)
 
 pub stars-are : map found stars ≡ map expected stars
-unfolding choose goodOf both currentOf moduleFactor dropOf voltageDrop voltageOf supplyOf lowOf highOf bandOf levelOf
+unfolding choose goodOf both currentOf moduleFactor dropOf isRating isRated voltageDrop voltageOf supplyOf lowOf highOf bandOf levelOf
 stars-are = refl

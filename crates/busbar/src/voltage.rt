@@ -3,11 +3,13 @@ ghost use mathlib.Core.Path.{_≡_};
 ghost use Prim.Native.Nat.{_≤_, _<_, _^_};
 ghost use lib.IntN.{pos, natAbs, _*ℤ_};
 ghost use lib.Signed.{leZ, ltZ};
-ghost use Rattle.busbar.specs.Voltage.{readingOf, goodOf, sumOf, differenceOf, currentOf, dropOf, voltageDrop, voltageOf, Within};
+ghost use Rattle.busbar.specs.Voltage.{readingOf, goodOf, sumOf, differenceOf, currentOf, mostComp, mostRating, dropOf, isRating, isRated, voltageDrop, voltageOf, Within};
 ghost use Rattle.busbar.specs.Deviation.{supplyOf, lowOf, highOf, bandOf, levelOf, farAbove};
 use measure::Measured;
+use slots::BREAKER_RATING;
 use slots::COMPENSATION;
 use slots::COMPENSATION_CURRENT;
+use slots::CT_RATING;
 use slots::D_U;
 use slots::SLOTS;
 use slots::U_COMP;
@@ -30,6 +32,11 @@ pub enum Level {
 
 // 200 V, or 200 A of a 5 A module: no reading is above it.
 const HIGHEST: u32 = 200_000;
+
+// 40 V, and 20,000 A: no sheet that is taken has a U_comp or a rating above it.
+const MOST_COMP: u32 = 40_000;
+
+const MOST_RATING: u32 = 20_000;
 
 // A reading's number. One above what a reading can be is missing.
 fn reading(n: u32) -> Value
@@ -100,12 +107,25 @@ fn current(s: &[u32; SLOTS], i_bus: Measured, i_coupler: Measured) -> Value
     }
 }
 
-// U_comp × I ÷ (1,000k), rounded toward zero.
-fn drop_at(u_comp: u32, i: i64, k: u32) -> i64
-    requires { ⌜ (natAbs i ≤ 400000) × ((0 < k) × (k ≤ 5)) ⌝ }
-    ensures { λ r. ⌜ (r ≡ dropOf «u_comp» i k) × (natAbs r ≤ 2 ^ 60) ⌝ }
+// U_comp × I × the current transformer's rating, divided once by 1,000k × the breaker's, toward zero.
+fn drop_at(u_comp: u32, i: i64, k: u32, ct: u32, breaker: u32) -> i64
+    requires { ⌜ («u_comp» ≤ mostComp) × (natAbs i ≤ 400000) × (0 < k) × (k ≤ 5) × (ct ≤ mostRating) × (0 < breaker) × (breaker ≤ mostRating) ⌝ }
+    ensures { λ r. ⌜ (r ≡ dropOf «u_comp» i k ct breaker) × (natAbs r ≤ 2 ^ 60) ⌝ }
 {
-    (u_comp as i64) * i / ((1000 * k) as i64)
+    (u_comp as i64) * i * (ct as i64) / ((1000 * k * breaker) as i64)
+}
+
+fn is_rating(n: u32) -> bool
+    ensures { λ r. ⌜ r ≡ isRating n ⌝ }
+{
+    (1 <= n) & (n <= MOST_RATING)
+}
+
+// Whether U_comp and the ratings are such as a sheet can hold: then no product overflows, and the divisor is not 0.
+fn is_rated(s: &[u32; SLOTS]) -> bool
+    ensures { λ r. ⌜ r ≡ isRated (now (s .entry)) ⌝ }
+{
+    (s[U_COMP] <= MOST_COMP) & (is_rating(s[CT_RATING]) & is_rating(s[BREAKER_RATING]))
 }
 
 // The drop by U_comp, missing if I is.
@@ -115,7 +135,19 @@ fn voltage_drop(s: &[u32; SLOTS], i: Value) -> Value
 {
     match i {
         Value::Missing => Value::Missing,
-        Value::Is(x) => Value::Is(drop_at(s[U_COMP], x, sheet::module_factor(s))),
+        Value::Is(x) => {
+            if is_rated(s) {
+                Value::Is(drop_at(
+                    s[U_COMP],
+                    x,
+                    sheet::module_factor(s),
+                    s[CT_RATING],
+                    s[BREAKER_RATING],
+                ))
+            } else {
+                Value::Missing
+            }
+        }
     }
 }
 

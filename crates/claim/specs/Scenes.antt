@@ -21,8 +21,8 @@ sheetOf kind under uSet2 t1 t2 t3 t4 t5 t6 =
     ∷ 1000 ∷ 1000 ∷ 100 ∷ 120000 ∷ uSet2 ∷ 10000 ∷ 5000 ∷ 110000
     -- T1–T6, T7, T8, T9–T15
     ∷ t1 ∷ t2 ∷ t3 ∷ t4 ∷ t5 ∷ t6 ∷ 0 ∷ 20 ∷ 0 ∷ 0 ∷ 0 ∷ 0 ∷ 0 ∷ 0 ∷ 0
-    -- N_pos, N_R, N_L, N_start, N_max, sliding taps, the kind of drive, R, X
-    ∷ 20 ∷ 40 ∷ 1 ∷ 0 ∷ 500000 ∷ 0 ∷ 0 ∷ 0 ∷ 0 ∷ 0 ∷ 0 ∷ 0 ∷ 0 ∷ 0 ∷ 0 ∷ kind ∷ 0 ∷ 0 ∷ []
+    -- N_pos, N_R, N_L, N_start, N_max, sliding taps, the kind of drive, R, X, the ratings
+    ∷ 20 ∷ 40 ∷ 1 ∷ 0 ∷ 500000 ∷ 0 ∷ 0 ∷ 0 ∷ 0 ∷ 0 ∷ 0 ∷ 0 ∷ 0 ∷ 0 ∷ 0 ∷ kind ∷ 0 ∷ 0 ∷ 1250 ∷ 1250 ∷ []
 
 -- T1 to T5 are 20 ticks, T6 is 0
 abbrev pub plainSheet : List ℕ

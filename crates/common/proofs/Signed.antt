@@ -4,7 +4,7 @@
 use mathlib.Core.Path.{_≡_, refl, sym, ap, subst, _∙_}
 use mathlib.Core.Bool.{Bool, true, false, cond}
 use Prim.Native.Nat.{ℕ, zero, suc, _+_, _-_, _*_, _/_, _<_, _≤_, _^_}
-use native.Mathlib.Nat.{le-refl, le-trans, le-of-eq, lt-of-le-of-lt, mul-le-mul, div-le-self, le-div-iff-mul-le, div-mul-le-self}
+use native.Mathlib.Nat.{le-refl, le-trans, le-of-eq, lt-of-le-of-lt, mul-le-mul, div-le-self, le-div-iff-mul-le, div-mul-le-self, zero-div, mul-div-mul-right}
 use native.Mathlib.Omega.{arith}
 use borrow.Author.Tests.{ltb-true}
 use lib.Dec.{T, ltb}
@@ -52,6 +52,15 @@ natAbs-quot (negsuc a) (negsuc b) = div-le-self (suc a) (suc b)
 natAbs-divided : (x : ℤ) (b : ℕ) → natAbs (quotZ x (pos b)) ≡ natAbs x / b
 natAbs-divided (pos a) b = refl
 natAbs-divided (negsuc a) b = natAbs-neg (pos (suc a / b))
+
+quot-neg : (m b : ℕ) → quotZ (negℤ (pos m)) (pos b) ≡ negℤ (pos (m / b))
+quot-neg zero b = rw (zero-div b)
+quot-neg (suc m) b = refl
+
+-- a factor of both numbers has no part in their quotient
+pub quot-cancel : (z : ℤ) (d n : ℕ) → 0 < n → quotZ (z *ℤ pos n) (pos (d * n)) ≡ quotZ z (pos d)
+quot-cancel (pos a) d n h = ap pos (mul-div-mul-right a d h)
+quot-cancel (negsuc a) d n h = quot-neg (suc a * n) (d * n) ∙ ap (λ (m : ℕ). negℤ (pos m)) (mul-div-mul-right (suc a) d h)
 
 -- a square is the square of the magnitude
 pub square : (z : ℤ) → z *ℤ z ≡ pos (natAbs z * natAbs z)

@@ -9,7 +9,8 @@ use native.Mathlib.Omega.{arith}
 use borrow.Author.Tests.{lt-ltb, eq-eqb}
 use Rattle.common.specs.Choice.{choose}
 use Rattle.common.proofs.Cases.{yes}
-use Rattle.slots.specs.Slots.{slot, compensationCurrent, resistance, reactance}
+use Rattle.slots.specs.Slots.{slot, moduleKind, compensationCurrent, resistance, reactance}
+use Rattle.phasor.specs.declared.Phasors.{Phasors}
 use Rattle.phasor.specs.declared.Vector.{Vector}
 use Rattle.phasor.specs.declared.Vector.the-variants.{Missing, Is}
 use Rattle.root.specs.Roots.{rootOf, Root}
@@ -17,7 +18,7 @@ use Rattle.root.proofs.Laws.{root-is, root-monotone}
 use Rattle.busbar.specs.declared.voltage.Value.{Value}
 use Rattle.busbar.specs.declared.voltage.Value.the-variants as value
 use Rattle.line.proofs.Made.{end-made}
-use Rattle.line.specs.Along.{pickedOf, scaledOf, dropRe, dropIm, remainsOf, squaresOf, magnitudeOf, farEndOf}
+use Rattle.line.specs.Along.{pickedOf, scaledOf, dropRe, dropIm, remainsOf, squaresOf, magnitudeOf, farEndOf, alongOf}
 
 -- ---- U is what its sentence says
 
@@ -84,3 +85,10 @@ module _ (s : List ℕ) (a b c : Vector) where
   pub bus-unneeded : slot s compensationCurrent ≡ 1 → pickedOf s a c ≡ pickedOf s b c
   unfolding pickedOf choose
   bus-unneeded e = rw e refl
+
+-- ---- U goes by the module, slot 4, R and X, and by no other slot: not by the ratings of 02, ticket 5
+
+pub by-its-slots : (s t : List ℕ) (p : Phasors) → slot s moduleKind ≡ slot t moduleKind → slot s compensationCurrent ≡ slot t compensationCurrent
+    → slot s resistance ≡ slot t resistance → slot s reactance ≡ slot t reactance → alongOf s p ≡ alongOf t p
+unfolding alongOf farEndOf pickedOf
+by-its-slots s t p k c r x = rw (k, c, r, x)

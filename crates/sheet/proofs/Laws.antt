@@ -9,7 +9,7 @@ use native.Mathlib.Omega.{arith}
 use lib.Dec.{leb, ltb}
 use borrow.Author.Tests.{leb-true, ltb-true}
 use Rattle.common.specs.Choice.{choose}
-use Rattle.slots.specs.Slots.{slot, resistance, reactance, t1, t2, t3, t4, t5, t6, t7, t8, organDelays, organLimits, uSupp, dU, uComp, uSet5, nPos, nR, nL, nStart, nMax, slidingTaps, slots}
+use Rattle.slots.specs.Slots.{slot, resistance, reactance, ctRating, breakerRating, t1, t2, t3, t4, t5, t6, t7, t8, organDelays, organLimits, uSupp, dU, uComp, uSet5, nPos, nR, nL, nStart, nMax, slidingTaps, slots}
 use Rattle.sheet.specs.Table.{Row, rowOf, rowIn, moduleFactor, factorOf, lowOf, highOf, takenOf, takenBy}
 use Rattle.sheet.specs.Sheet.{isTaken, takenIn, judgeOf, passesOf, answerOf}
 use Rattle.sheet.specs.declared.Answer.{Answer}
@@ -153,6 +153,15 @@ module _ (s : List ℕ) (e : passesOf s ≡ true) where
   pub reactance-most : slot s reactance ≤ 400000
   unfolding rowOf rowIn choose
   reactance-most = in-run reactance 1 0 400000 refl 0 (omega arith) .1
+
+  -- the ratings
+  pub ct-range : (1 ≤ slot s ctRating) × (slot s ctRating ≤ 20000)
+  unfolding rowOf rowIn choose
+  ct-range = in-run ctRating 1 1 20000 refl 0 (omega arith)
+
+  pub breaker-range : (1 ≤ slot s breakerRating) × (slot s breakerRating ≤ 20000)
+  unfolding rowOf rowIn choose
+  breaker-range = in-run breakerRating 1 1 20000 refl 0 (omega arith)
 
   -- 1 ≤ N_L < N_R ≤ 40, and N_pos within
   pub taps-range : (1 ≤ slot s nL) × (slot s nL < slot s nR) × (slot s nR ≤ 40) × (slot s nL ≤ slot s nPos) × (slot s nPos ≤ slot s nR)

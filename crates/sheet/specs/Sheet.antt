@@ -48,7 +48,7 @@ unfoldable pub firstOutOfRange : List ℕ → ℕ
 firstOutOfRange s = firstFrom (takenIn s) slots 0
 
 -- the causes, as the paper's table has them
--- 'list not 63 long'; 02, ticket 3: 'the sheet is 66 long'
+-- 'list not 63 long'; 02, ticket 5: 'the sheet is 68 long'
 abbrev pub wrongLength : List ℕ → Bool
 wrongLength s = not (eqb (length s) slots)
 

@@ -90,6 +90,8 @@ rows =
     row 63 63 0 1 1 ∷
     -- 02, ticket 3: "R and X in mΩ, 0–80,000 with 5 A, 0–400,000 with 1 A"
     rowZ 64 65 0 80000 1 ∷
+    -- 02, ticket 5: "the transformer's and the breaker's primary rating, 1–20,000 A"
+    row 66 67 1 20000 1 ∷
     []
 
 -- the row that has the slot; 0–0 for what is no slot

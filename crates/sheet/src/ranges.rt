@@ -69,6 +69,8 @@ pub const LOW: [u32; SLOTS] = [
     0, // 63 continuous regulation
     0, // 64 R, times 5 / k
     0, // 65 X, times 5 / k
+    1, // 66 current transformer's rating
+    1, // 67 breaker's rating
 ];
 
 pub const HIGH: [u32; SLOTS] = [
@@ -138,6 +140,8 @@ pub const HIGH: [u32; SLOTS] = [
     1, // 63 continuous regulation
     80000, // 64 R, times 5 / k
     80000, // 65 X, times 5 / k
+    20000, // 66 current transformer's rating
+    20000, // 67 breaker's rating
 ];
 
 pub const STEP: [u32; SLOTS] = [
@@ -207,4 +211,6 @@ pub const STEP: [u32; SLOTS] = [
     1, // 63 continuous regulation
     1, // 64 R, times 5 / k
     1, // 65 X, times 5 / k
+    1, // 66 current transformer's rating
+    1, // 67 breaker's rating
 ];

@@ -11,7 +11,7 @@ slot s i = getD s i 0
 
 -- how many slots there are
 abbrev pub slots : ℕ
-slots = 66
+slots = 68
 
 abbrev pub inService : ℕ
 inService = 0
@@ -137,6 +137,13 @@ resistance = 64
 
 abbrev pub reactance : ℕ
 reactance = 65
+
+-- 02, ticket 5: "Slots 66 and 67 are the transformer's and the breaker's primary rating", in A; the current transformer's
+abbrev pub ctRating : ℕ
+ctRating = 66
+
+abbrev pub breakerRating : ℕ
+breakerRating = 67
 
 abbrev pub isContinuous : List ℕ → Bool
 isContinuous s = eqb (slot s continuous) 1

@@ -1,5 +1,5 @@
 // The slots of the setting sheet, by name. A run of slots has the name of its first; `specs/Slots.antt` has the same names.
-pub const SLOTS: usize = 66;
+pub const SLOTS: usize = 68;
 
 pub const IN_SERVICE: usize = 0;
 
@@ -78,3 +78,7 @@ pub const CONTINUOUS: usize = 63;
 pub const RESISTANCE: usize = 64;
 
 pub const REACTANCE: usize = 65;
+// The current transformer's and the breaker's primary rating in A.
+pub const CT_RATING: usize = 66;
+
+pub const BREAKER_RATING: usize = 67;

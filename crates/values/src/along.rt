@@ -220,7 +220,7 @@ fn voltage(w: Row) -> Value {
 }
 
 // A number that stands so far above itself, with its sign.
-fn print_above(d: u64, zero: u64) {
+pub(crate) fn print_above(d: u64, zero: u64) {
     if d < zero {
         print::text(b"-");
         print::number(zero - d);
@@ -238,7 +238,7 @@ fn print_value(v: Value) {
 }
 
 // U is never below 0.
-fn magnitude(z: i64) -> u64 {
+pub(crate) fn magnitude(z: i64) -> u64 {
     if z < 0 {
         return 0;
     }
@@ -248,10 +248,8 @@ fn magnitude(z: i64) -> u64 {
 fn print_row(w: Row) {
     let zero = ZERO as u64;
     print::text(b"along ");
-    print::number(w.r as u64);
-    print::text(b" ");
-    print::number(w.x as u64);
-    print::text(b" ");
+    print::field(w.r as u64);
+    print::field(w.x as u64);
     print_above(w.u_re as u64, zero);
     print_above(w.u_im as u64, zero);
     print_above(w.bus_re as u64 + w.coupler_re as u64, 2 * zero);

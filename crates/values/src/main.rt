@@ -1,8 +1,10 @@
-// Worked values of the readings and of their first step, of pairs, of roots and the line's drop, of the setting sheet and of the tap.
+// Worked values of the readings and of their first step, of pairs, of roots, of the drops along a line and by U_comp, of the setting sheet
+// and of the tap.
 // `stdout` has what the second program, `rust/reference`, prints of the same values, so a run that differs shows that one of the two
 // programs is wrong.
 mod along;
 mod bcd;
+mod drops;
 mod fronts;
 mod parts;
 mod print;
@@ -20,6 +22,8 @@ fn main() {
     roots::print_listed();
     along::print_listed();
     along::print_generated();
+    drops::print_listed();
+    drops::print_generated();
     sheets::print_lengths();
     sheets::print_slots(b"slot ", sheets::BASE);
     sheets::print_slots(b"slot5 ", sheets::base_5a());

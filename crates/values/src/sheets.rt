@@ -79,6 +79,8 @@ pub const BASE: [u32; SLOTS] = [
     0,
     4_000,
     3_000,
+    2_000,
+    1_250,
 ];
 
 // One slot more and one slot less than a sheet has.
@@ -87,7 +89,7 @@ const LONGER: usize = SLOTS + 1;
 const SHORTER: usize = SLOTS - 1;
 
 // The numbers that are tried at each slot.
-const TRIED: [u32; 49] = [
+const TRIED: [u32; 51] = [
     0,
     1,
     2,
@@ -137,6 +139,8 @@ const TRIED: [u32; 49] = [
     80_001,
     400_000,
     400_001,
+    20_000,
+    20_001,
 ];
 
 // The same sheet for a 5 A module.

@@ -9,11 +9,20 @@ enum-told c = search needs
 enum-known-i : tie.Need-enum-known-i
 enum-known-i c = search needs
 
+is-rated-requires : tie.Need-is-rated-requires
+is-rated-requires c κs = search needs
+
 element-copy-out-drop-at : tie.Need-element-copy-out-drop-at
 element-copy-out-drop-at c = search needs
 
 module-factor-requires : tie.Need-module-factor-requires
 module-factor-requires c κs = search needs
+
+element-copy-out-drop-at-2 : tie.Need-element-copy-out-drop-at-2
+element-copy-out-drop-at-2 c = search needs
+
+element-copy-out-drop-at-3 : tie.Need-element-copy-out-drop-at-3
+element-copy-out-drop-at-3 c = search needs
 
 drop-at-requires : tie.Need-drop-at-requires
 drop-at-requires c κs = search drops
@@ -24,14 +33,21 @@ returns c = search drops
 returns-2 : tie.Need-returns-2
 returns-2 c = search drops
 
+returns-3 : tie.Need-returns-3
+returns-3 c = search drops
+
 pub voltage-drop-spec : {M : Type 1} → statement M
 voltage-drop-spec =
     tie.close
     (tie.spec
     enum-told
     enum-known-i
+    is-rated-requires
     element-copy-out-drop-at
     module-factor-requires
+    element-copy-out-drop-at-2
+    element-copy-out-drop-at-3
     drop-at-requires
     returns
-    returns-2)
+    returns-2
+    returns-3)
