@@ -15,7 +15,7 @@ use Rattle.sheet.specs.Sheet.{passesOf}
 use Rattle.sheet.proofs.Laws.{uComp-range, ct-range, breaker-range}
 use Rattle.busbar.specs.Voltage.{dropOf, unratedDrop, isRating, isRated, voltageDrop}
 use Rattle.busbar.specs.declared.voltage.Value.the-variants.{Is}
-use Rattle.busbar.proofs.Values.{rating-positive, divisor-positive}
+use Rattle.busbar.proofs.Values.{factor-positive, divisor-positive, breaker-rated}
 
 -- "01's case stands for equal ratings"
 pub equal-ratings : (comp : ℕ) (i : ℤ) (k n : ℕ) → 0 < n → dropOf comp i k n n ≡ unratedDrop comp i k
@@ -33,7 +33,7 @@ module _ (s : List ℕ) (e : passesOf s ≡ true) where
 
   -- the divisor is never 0
   pub taken-divisor : 0 < 1000 * moduleFactor s * slot s breakerRating
-  taken-divisor = divisor-positive (moduleFactor s) (slot s breakerRating) (rating-positive (moduleFactor s) s refl) (breaker-range s e .0)
+  taken-divisor = divisor-positive (moduleFactor s) (slot s breakerRating) (breaker-rated s true (sym taken-rated) refl) (factor-positive (moduleFactor s) s refl)
 
   module _ (i : ℤ) where
     -- so the drop is there, and the paper's

@@ -127,14 +127,23 @@ current-within r s bus coupler e =
 
 -- ---- the drop
 
--- 1,000k × the breaker's rating
-module _ (k breaker : ℕ) where
-  pub divisor-positive : 0 < k → 0 < breaker → 0 < 1000 * k * breaker
-  divisor-positive h l = mul-pos (omega (arith, h)) l
+module _ (n : ℕ) (e : isRating n ≡ true) where
+  rating-positive : 0 < n
+  unfolding isRating
+  rating-positive = leb-true _ _ (and-left _ _ e)
 
-  module _ (small-k : k ≤ 5) (small-breaker : breaker ≤ mostRating) where
+  rating-le : n ≤ mostRating
+  unfolding isRating
+  rating-le = leb-true _ _ (and-right (leb 1 n) _ e)
+
+-- 1,000k × the breaker's rating
+module _ (k breaker : ℕ) (e : isRating breaker ≡ true) where
+  pub divisor-positive : 0 < k → 0 < 1000 * k * breaker
+  divisor-positive h = mul-pos (omega (arith, h)) (rating-positive breaker e)
+
+  module _ (small-k : k ≤ 5) where
     divisor-le : 1000 * k * breaker ≤ 5000 * mostRating
-    divisor-le = mul-le-mul {n₂ = 5000} (omega arith) small-breaker
+    divisor-le = mul-le-mul {n₂ = 5000} (omega arith) (rating-le breaker e)
 
     pub divisor-fits : 1000 * k * breaker < 2 ^ 32
     divisor-fits = omega (arith, divisor-le)
@@ -142,12 +151,12 @@ module _ (k breaker : ℕ) where
     pub divisor-signed : SFits w64 (pos (1000 * k * breaker))
     divisor-signed = record { sfits = omega (arith, divisor-le) }
 
-module _ (comp : ℕ) (i : ℤ) (ct : ℕ) (small-comp : comp ≤ mostComp) (small-i : natAbs i ≤ 400000) (small-ct : ct ≤ mostRating) where
+module _ (comp : ℕ) (i : ℤ) (ct : ℕ) (small-comp : comp ≤ mostComp) (small-i : natAbs i ≤ 400000) (e : isRating ct ≡ true) where
   product : Stands (toZ w64 comp *ℤ read i) (pos comp *ℤ i) (mostComp * 400000)
   product = mul (cast-to mostComp small-comp tt) (back (exactly i small-i) tt)
 
   rated : Stands (read (toZ w64 comp *ℤ read i) *ℤ toZ w64 ct) (pos comp *ℤ i *ℤ pos ct) (mostComp * 400000 * mostRating)
-  rated = mul (back product tt) (cast-to mostRating small-ct tt)
+  rated = mul (back product tt) (cast-to mostRating (rating-le ct e) tt)
 
   pub product-fits : SFits w64 (toZ w64 comp *ℤ read i)
   product-fits = fits product tt
@@ -155,10 +164,10 @@ module _ (comp : ℕ) (i : ℤ) (ct : ℕ) (small-comp : comp ≤ mostComp) (sma
   pub rated-fits : SFits w64 (read (toZ w64 comp *ℤ read i) *ℤ toZ w64 ct)
   rated-fits = fits rated tt
 
-  module _ (k breaker : ℕ) (small-k : k ≤ 5) (small-breaker : breaker ≤ mostRating) where
+  module _ (k breaker : ℕ) (small-k : k ≤ 5) (f : isRating breaker ≡ true) where
     quotient : Stands (quotZ (read (read (toZ w64 comp *ℤ read i) *ℤ toZ w64 ct)) (toZ w64 (1000 * k * breaker))) (dropOf comp i k ct breaker) (mostComp * 400000 * mostRating)
     unfolding dropOf
-    quotient = quot (back rated tt) (cast (divisor-fits k breaker small-k small-breaker))
+    quotient = quot (back rated tt) (cast (divisor-fits k breaker f small-k))
 
     pub quotient-fits : SFits w64 (quotZ (read (read (toZ w64 comp *ℤ read i) *ℤ toZ w64 ct)) (toZ w64 (1000 * k * breaker)))
     quotient-fits = fits quotient tt
@@ -179,25 +188,19 @@ module _ (s : List ℕ) (t : Bool) (e : t ≡ isRated s) (p : t ≡ true) where
   unfolding isRated
   comp-le = leb-true _ _ (and-left _ _ (sym e ∙ p))
 
-  pub ct-le : slot s ctRating ≤ mostRating
-  unfolding isRating
-  ct-le = leb-true _ _ (and-right (leb 1 (slot s ctRating)) _ (and-left _ _ ratings))
+  pub ct-rated : isRating (slot s ctRating) ≡ true
+  ct-rated = and-left _ _ ratings
 
-  pub breaker-positive : 0 < slot s breakerRating
-  unfolding isRating
-  breaker-positive = leb-true _ _ (and-left _ _ (and-right (isRating (slot s ctRating)) _ ratings))
+  pub breaker-rated : isRating (slot s breakerRating) ≡ true
+  breaker-rated = and-right (isRating (slot s ctRating)) _ ratings
 
-  pub breaker-le : slot s breakerRating ≤ mostRating
-  unfolding isRating
-  breaker-le = leb-true _ _ (and-right (leb 1 (slot s breakerRating)) _ (and-right (isRating (slot s ctRating)) _ ratings))
-
-pub rating-positive : (r : ℕ) (s : List ℕ) → r ≡ moduleFactor s → 0 < r
+pub factor-positive : (r : ℕ) (s : List ℕ) → r ≡ moduleFactor s → 0 < r
 unfolding moduleFactor
-rating-positive r s e = rw e (chosen (λ (n : ℕ). 0 < n) (eqb (slot s moduleKind) 1) 5 1 (λ p. lit< tt) (λ p. lit< tt))
+factor-positive r s e = rw e (chosen (λ (n : ℕ). 0 < n) (eqb (slot s moduleKind) 1) 5 1 (λ p. lit< tt) (λ p. lit< tt))
 
-pub rating-le : (r : ℕ) (s : List ℕ) → r ≡ moduleFactor s → r ≤ 5
+pub factor-le : (r : ℕ) (s : List ℕ) → r ≡ moduleFactor s → r ≤ 5
 unfolding moduleFactor
-rating-le r s e = rw e (chosen (λ (n : ℕ). n ≤ 5) (eqb (slot s moduleKind) 1) 5 1 (λ p. lit≤ tt) (λ p. lit≤ tt))
+factor-le r s e = rw e (chosen (λ (n : ℕ). n ≤ 5) (eqb (slot s moduleKind) 1) 5 1 (λ p. lit≤ tt) (λ p. lit≤ tt))
 
 pub current-read : (v : Value) (z : ℤ) → v ≡ Is z → Within 400000 v → natAbs (read z) ≤ 400000
 current-read v z p h = small (back (exactly z (within-is 400000 v z p h)) tt)
@@ -280,13 +283,12 @@ pub ruleset drops = (
   quotient-fits,
   drop-is,
   drop-small,
-  rating-positive,
-  rating-le,
+  factor-positive,
+  factor-le,
   current-read,
   comp-le,
-  ct-le,
-  breaker-positive,
-  breaker-le,
+  ct-rated,
+  breaker-rated,
   drop-missing,
   drop-unrated,
   drop-made,

@@ -1,9 +1,10 @@
 // Rule 6: the voltage, less the drop that the load's current makes, and how it stands to U_supp, the voltage to be kept.
 ghost use mathlib.Core.Path.{_≡_};
+ghost use mathlib.Core.Bool.{true};
 ghost use Prim.Native.Nat.{_≤_, _<_, _^_};
 ghost use lib.IntN.{pos, natAbs, _*ℤ_};
 ghost use lib.Signed.{leZ, ltZ};
-ghost use Rattle.busbar.specs.Voltage.{readingOf, goodOf, sumOf, differenceOf, currentOf, mostComp, mostRating, dropOf, isRating, isRated, voltageDrop, voltageOf, Within};
+ghost use Rattle.busbar.specs.Voltage.{readingOf, goodOf, sumOf, differenceOf, currentOf, mostComp, dropOf, isRating, isRated, voltageDrop, voltageOf, Within};
 ghost use Rattle.busbar.specs.Deviation.{supplyOf, lowOf, highOf, bandOf, levelOf, farAbove};
 use measure::Measured;
 use slots::BREAKER_RATING;
@@ -109,12 +110,13 @@ fn current(s: &[u32; SLOTS], i_bus: Measured, i_coupler: Measured) -> Value
 
 // U_comp × I × the current transformer's rating, divided once by 1,000k × the breaker's, toward zero.
 fn drop_at(u_comp: u32, i: i64, k: u32, ct: u32, breaker: u32) -> i64
-    requires { ⌜ («u_comp» ≤ mostComp) × (natAbs i ≤ 400000) × (0 < k) × (k ≤ 5) × (ct ≤ mostRating) × (0 < breaker) × (breaker ≤ mostRating) ⌝ }
+    requires { ⌜ («u_comp» ≤ mostComp) × (natAbs i ≤ 400000) × (0 < k) × (k ≤ 5) × (isRating ct ≡ true) × (isRating breaker ≡ true) ⌝ }
     ensures { λ r. ⌜ (r ≡ dropOf «u_comp» i k ct breaker) × (natAbs r ≤ 2 ^ 60) ⌝ }
 {
     (u_comp as i64) * i * (ct as i64) / ((1000 * k * breaker) as i64)
 }
 
+// Whether a number of A is a rating: 1 to 20,000.
 fn is_rating(n: u32) -> bool
     ensures { λ r. ⌜ r ≡ isRating n ⌝ }
 {
@@ -137,13 +139,9 @@ fn voltage_drop(s: &[u32; SLOTS], i: Value) -> Value
         Value::Missing => Value::Missing,
         Value::Is(x) => {
             if is_rated(s) {
-                Value::Is(drop_at(
-                    s[U_COMP],
-                    x,
-                    sheet::module_factor(s),
-                    s[CT_RATING],
-                    s[BREAKER_RATING],
-                ))
+                let ct = s[CT_RATING];
+                let breaker = s[BREAKER_RATING];
+                Value::Is(drop_at(s[U_COMP], x, sheet::module_factor(s), ct, breaker))
             } else {
                 Value::Missing
             }

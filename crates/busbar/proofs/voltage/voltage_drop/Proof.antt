@@ -12,17 +12,17 @@ enum-known-i c = search needs
 is-rated-requires : tie.Need-is-rated-requires
 is-rated-requires c κs = search needs
 
+element-copy-out-ct : tie.Need-element-copy-out-ct
+element-copy-out-ct c = search needs
+
+element-copy-out-breaker : tie.Need-element-copy-out-breaker
+element-copy-out-breaker c = search needs
+
 element-copy-out-drop-at : tie.Need-element-copy-out-drop-at
 element-copy-out-drop-at c = search needs
 
 module-factor-requires : tie.Need-module-factor-requires
 module-factor-requires c κs = search needs
-
-element-copy-out-drop-at-2 : tie.Need-element-copy-out-drop-at-2
-element-copy-out-drop-at-2 c = search needs
-
-element-copy-out-drop-at-3 : tie.Need-element-copy-out-drop-at-3
-element-copy-out-drop-at-3 c = search needs
 
 drop-at-requires : tie.Need-drop-at-requires
 drop-at-requires c κs = search drops
@@ -43,10 +43,10 @@ voltage-drop-spec =
     enum-told
     enum-known-i
     is-rated-requires
+    element-copy-out-ct
+    element-copy-out-breaker
     element-copy-out-drop-at
     module-factor-requires
-    element-copy-out-drop-at-2
-    element-copy-out-drop-at-3
     drop-at-requires
     returns
     returns-2
