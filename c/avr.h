@@ -25,7 +25,7 @@
 extern "C" {
 #endif
 
-#define AVR_SLOTS 66    /* numbers of a setting sheet */
+#define AVR_SLOTS 68    /* numbers of a setting sheet */
 #define AVR_ORGANS 7    /* measuring organs */
 #define AVR_READINGS 12 /* readings of a tick, each part of a pair being one */
 #define AVR_FIELDS 28   /* outputs of a tick */
@@ -60,7 +60,7 @@ enum avr_slot {
     AVR_SLOT_U_SUPP3 = 21,              /* U_supp3: voltage to hold 3, mV; 80000-140000, step 100 */
     AVR_SLOT_U_SUPP4 = 22,              /* U_supp4: voltage to hold 4, mV; 80000-140000, step 100 */
     AVR_SLOT_D_U = 23,                  /* dU_set: width of the dead band, mV; 1000-40000, step 100 */
-    AVR_SLOT_U_COMP = 24,               /* U_comp: voltage drop of the line at rated current, mV; 1000-40000, step 100 */
+    AVR_SLOT_U_COMP = 24,               /* U_comp: voltage drop of the line at the breaker's rating, mV; 1000-40000, step 100 */
     AVR_SLOT_I_SET1 = 25,               /* I_set1: I_high: overload of the tap changer, mA; 100k-40000k */
     AVR_SLOT_I_SET2 = 26,               /* I_set2: I_bus: overload of the infeed, mA; 100k-40000k */
     AVR_SLOT_I_SET3 = 27,               /* I_set3: I_bus: least load current, mA; 50k-5000k */
@@ -102,6 +102,8 @@ enum avr_slot {
     AVR_SLOT_CONTINUOUS = 63,           /* XB2: regulation: 0 impulse, by the switching contact, 1 continuous, without it; 0-1 */
     AVR_SLOT_RESISTANCE = 64,           /* R_set: resistance of the line, mohm; 0-400000/k */
     AVR_SLOT_REACTANCE = 65,            /* X_set: reactance of the line, mohm; 0-400000/k */
+    AVR_SLOT_CT_RATING = 66,            /* Inom_ct1: primary rating of the current transformer, A; 1-20000 */
+    AVR_SLOT_BREAKER_RATING = 67,       /* Inom_bus1: primary rating of the breaker, A; 1-20000 */
 
     /* The first slot of each run: the organs in the order of their outputs, U_supp 1 to 4, the sliding taps 1 to 10. */
     AVR_SLOT_ORGANS_ON = AVR_SLOT_ON_I_HIGH_OVER_I_SET1,

@@ -27,6 +27,7 @@ static void sheet(uint32_t *s) {
     s[AVR_SLOT_N_R] = 19;
     s[AVR_SLOT_N_L] = 1;
     s[AVR_SLOT_N_MAX] = 100;
+    fill(s, AVR_SLOT_CT_RATING, AVR_SLOT_BREAKER_RATING, 2000);
 }
 
 static void show(int tick, uint32_t answer, const avr_image *m, const avr_outputs *o) {

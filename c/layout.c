@@ -63,6 +63,8 @@ static void sheet(uint32_t *s) {
     s[AVR_SLOT_CONTINUOUS] = 1;
     s[AVR_SLOT_RESISTANCE] = 1;
     s[AVR_SLOT_REACTANCE] = 10000;
+    s[AVR_SLOT_CT_RATING] = 3;
+    s[AVR_SLOT_BREAKER_RATING] = 20000;
 }
 
 /*

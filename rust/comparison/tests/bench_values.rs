@@ -1,5 +1,6 @@
 //! The scope paper's bench values that are not proved together, its five 'wrong and inviting' ones, readings beside a half of a
-//! thousandth, and compensation along R and X, on the proved library; each tick is held to the second program's as well.
+//! thousandth, and compensation by U_comp with its ratings and along R and X, on the proved library; each tick is held to the
+//! second program's as well.
 
 use comparison::convert::{brought, image_of};
 use library::{start, tick, Image, Outputs, FIELDS};
@@ -175,10 +176,9 @@ fn a_band_edge_is_outside() {
     assert_eq!(unit.tick(&volts(101.0, AUTOMATIC))[18], 1);
 }
 
-/// U_comp 5.1 V, 5 A, I = -3 mA: the drop is -3 mV and not -4, so 98,997 mV comes to the edge and not past it.
-#[test]
-fn a_negative_drop_is_rounded_toward_zero() {
-    let mut unit = Unit::new(&[
+/// U_comp 5.1 V with a 5 A module, slot 4 taking bus - coupler, and these ratings.
+fn by_u_comp(transformer: u32, breaker: u32) -> [(usize, u32); 9] {
+    [
         (slot::MODULE, 1),
         (slot::COMPENSATION, 1),
         (slot::COMPENSATION_CURRENT, 2),
@@ -186,13 +186,47 @@ fn a_negative_drop_is_rounded_toward_zero() {
         (slot::I_SET1, 5_000),
         (slot::I_SET2, 5_000),
         (slot::I_SET3, 500),
-    ]);
-    let mut input = volts(f32::from_bits(0x42C5_FE77), AUTOMATIC);
-    input.i_bus = Reading::Good(f32::from_bits(0x3A83_126F));
-    input.i_coupler = Reading::Good(f32::from_bits(0x3B83_126F));
-    assert_eq!(unit.tick(&input)[17], 1);
-    input.u_ab = Reading::Good(f32::from_bits(0x42C5_FE77 + 0x84));
-    assert_eq!(unit.tick(&input)[17], 0);
+        (slot::TRANSFORMER_RATING, transformer),
+        (slot::BREAKER_RATING, breaker),
+    ]
+}
+
+/// Whether U is low where U_AB has these mV and the coupler these mA, and the bus none.
+fn is_low(slots: &[(usize, u32)], u_ab: u32, coupler: u32) -> bool {
+    let mut input = volts(u_ab as f32 / 1000.0, AUTOMATIC);
+    input.i_bus = Reading::Good(0.0);
+    input.i_coupler = Reading::Good(coupler as f32 / 1000.0);
+    Unit::new(slots).tick(&input)[17] == 1
+}
+
+/// I = -3 mA: the drop is -3 mV and not -4, so 98,997 mV comes to the edge, 99,000, and not past it.
+#[test]
+fn a_negative_drop_is_rounded_toward_zero() {
+    for rating in [1, 1_250, 20_000] {
+        let equal = by_u_comp(rating, rating);
+        assert_eq!([98_997, 98_998].map(|u_ab| is_low(&equal, u_ab, 3)), [true, false], "{rating} A");
+    }
+}
+
+/// 2,000 A over 1,250 A: -4.896 mV is -4, and not -5 by rounding down or to nearest. -60.384 is -60; divided twice it would be -59.
+/// The other way round -1.9125 is -1.
+#[test]
+fn the_drop_goes_by_the_ratings() {
+    let site = by_u_comp(2_000, 1_250);
+    assert_eq!([98_996, 98_997].map(|u_ab| is_low(&site, u_ab, 3)), [true, false]);
+    assert_eq!([98_940, 98_941].map(|u_ab| is_low(&site, u_ab, 37)), [true, false]);
+    let swapped = by_u_comp(1_250, 2_000);
+    assert_eq!([98_999, 99_000].map(|u_ab| is_low(&swapped, u_ab, 3)), [true, false]);
+}
+
+/// With the largest ratio each mA is 20.4 V: 4 mA of the coupler lift U to 81.6 V, and 5 mA to 102 V. With the smallest one all of
+/// 200 A are 10.2 mV.
+#[test]
+fn ratings_may_be_far_apart() {
+    let large = by_u_comp(20_000, 1);
+    assert_eq!([4, 5].map(|coupler| is_low(&large, 0, coupler)), [true, false]);
+    let small = by_u_comp(1, 20_000);
+    assert_eq!([98_990, 98_991].map(|u_ab| is_low(&small, u_ab, 200_000)), [true, false]);
 }
 
 /// A tick with U_AB and I_bus as pairs, real and imaginary part, and no other reading.

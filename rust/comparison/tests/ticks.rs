@@ -6,7 +6,7 @@ use library::{start, tick, tick_by_value, Image, Outputs, Ticked, FIELDS};
 use reference::dice::Dice;
 use reference::input::Input;
 use reference::scene::Scene;
-use reference::sheet::slot;
+use reference::sheet::{slot, Settings};
 use reference::tick::tick as second;
 
 const RUNS: u64 = 4_000;
@@ -39,19 +39,31 @@ fn compare(image: &Image, input: &Input, dice: &mut Dice, at: &str) -> Both {
     Both { answer, next }
 }
 
+/// The ways of compensation, by U_comp with ratings that are equal and that are not.
+const WAYS: [&str; 4] = ["none", "by U_comp", "by U_comp with two ratings", "along R and X"];
+
+fn way(settings: &Settings) -> usize {
+    match settings[slot::COMPENSATION] {
+        0 => 0,
+        1 if settings[slot::TRANSFORMER_RATING] == settings[slot::BREAKER_RATING] => 1,
+        1 => 2,
+        _ => 3,
+    }
+}
+
 /// How often each output was on, how many commands began, and how many ticks were low, in band or without U, and high with each
 /// way of compensation.
 #[derive(Default)]
 struct Seen {
     on: [u64; FIELDS],
     commands: u64,
-    sides: [[u64; 3]; 3],
+    sides: [[u64; 3]; WAYS.len()],
 }
 
 impl Seen {
-    fn add(&mut self, compensation: u32, before: &Outputs, outputs: &Outputs) {
+    fn add(&mut self, way: usize, before: &Outputs, outputs: &Outputs) {
         let side = 1 + outputs.fields[18] as usize - outputs.fields[17] as usize;
-        self.sides[compensation as usize][side] += 1;
+        self.sides[way][side] += 1;
         let command = |o: &Outputs| o.fields[0] | o.fields[1];
         self.commands += u64::from(command(outputs) & !command(before));
         for (sum, &field) in self.on.iter_mut().zip(&outputs.fields) {
@@ -75,7 +87,7 @@ fn run(seed: u64, dice: &mut Dice, seen: &mut Seen) {
         assert_eq!(answer, ticked.refusal, "{}", at());
         assert_eq!(outputs.fields, ticked.outputs, "{}", at());
         assert_eq!(image, image_of(&ticked.next), "{}", at());
-        seen.add(image.settings[slot::COMPENSATION], &before, &outputs);
+        seen.add(way(&image.settings), &before, &outputs);
     }
 }
 
@@ -88,7 +100,7 @@ fn runs() {
     }
     println!("{} ticks, {} commands", RUNS * TICKS as u64, seen.commands);
     println!("ticks with each output on: {:?}", seen.on);
-    println!("ticks low, neither and high, without compensation, by U_comp, along R and X: {:?}", seen.sides);
+    println!("ticks low, neither and high, compensated {}: {:?}", WAYS.join(", "), seen.sides);
     assert!(seen.on.iter().all(|&n| n > 0), "an output never came on");
     assert!(seen.sides.iter().flatten().all(|&n| n > 100_000), "a way of compensation is seldom tried: {:?}", seen.sides);
 }

@@ -39,6 +39,7 @@ left out has its default. Values are in V, A, ohm and s, or words:
     I_nom = 5 A         # the module
     U_supp1 = 100.5 V   # or 100.5
     XB4 = RX            # off, U_comp, or RX: along R_set and X_set
+    Inom_ct1 = 2000 A   # with U_comp: the current transformer's primary rating, and Inom_bus1 the breaker's; or 2000, 2 kA
     R_set = 4.5 ohm     # or 4.5, 4500 mohm, 4.5 Ω; up to 80 ohm with I_nom = 5 A, up to 400 ohm with 1 A
     T1 = 120 s          # or 120, 120000 ms, 24000 ticks
     XB6 = sensor        # off, BCD, sensor; with XB2 = impulse also counted, counted-reversed

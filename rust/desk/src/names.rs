@@ -15,6 +15,8 @@ pub const N_POS: usize = at("N_pos");
 pub const N_R: usize = at("N_R");
 pub const N_L: usize = at("N_L");
 pub const CONTINUOUS: usize = at("XB2");
+pub const CT_RATING: usize = at("Inom_ct1");
+pub const BREAKER_RATING: usize = at("Inom_bus1");
 
 /// The slot of a name of the table, found while the tool is compiled.
 pub const fn at(name: &str) -> usize {
@@ -36,6 +38,8 @@ pub enum Kind {
     Amps,
     /// Ω; the slot counts mΩ.
     Ohms,
+    /// A of the primary side; the slot counts A.
+    PrimaryAmps,
     /// Seconds; the slot counts ticks.
     Seconds,
     /// A plain number.
@@ -98,7 +102,7 @@ pub const TABLE: [Slot; SLOTS] = [
     volts("U_supp3", "voltage to hold 3", 80_000, 140_000, 100_000),
     volts("U_supp4", "voltage to hold 4", 80_000, 140_000, 100_000),
     volts("dU_set", "width of the dead band", 1_000, 40_000, 2_000),
-    volts("U_comp", "voltage drop of the line at rated current", 1_000, 40_000, 5_000),
+    volts("U_comp", "voltage drop of the line at the breaker's rating", 1_000, 40_000, 5_000),
     amps("I_set1", "overload of the tap changer", 100, 40_000, 1_000),
     amps("I_set2", "overload of the infeed", 100, 40_000, 1_000),
     amps("I_set3", "least load current", 50, 5_000, 100),
@@ -140,15 +144,13 @@ pub const TABLE: [Slot; SLOTS] = [
     words("XB2", "regulation: by the drive's switching contact, or without one", &["impulse", "continuous"]),
     ohms("R_set", "resistance of the line", 0, 400_000, 0),
     ohms("X_set", "reactance of the line", 0, 400_000, 0),
+    rating("Inom_ct1", "primary rating of the current transformer"),
+    rating("Inom_bus1", "primary rating of the breaker"),
 ];
 
 /// Names that the manual's table has and this unit has not, and other spellings.
-pub const ABSENT: [(&str, &str); 4] = [
-    ("XB19", "this unit takes 3U0 as it is brought"),
-    ("Inom_bus1", "this unit has no use for it"),
-    ("dU", "write dU_set"),
-    ("U_set9", "write U_set5"),
-];
+pub const ABSENT: [(&str, &str); 3] =
+    [("XB19", "this unit takes 3U0 as it is brought"), ("dU", "write dU_set"), ("U_set9", "write U_set5")];
 
 const fn slot(name: &'static str, meaning: &'static str, kind: Kind, range: (u32, u32, u32), default: u32) -> Slot {
     let (low, high, step) = range;
@@ -169,6 +171,10 @@ const fn amps(name: &'static str, meaning: &'static str, low: u32, high: u32, de
 
 const fn ohms(name: &'static str, meaning: &'static str, low: u32, high: u32, default: u32) -> Slot {
     Slot { module: Module::Over, ..slot(name, meaning, Kind::Ohms, (low, high, 1), default) }
+}
+
+const fn rating(name: &'static str, meaning: &'static str) -> Slot {
+    slot(name, meaning, Kind::PrimaryAmps, (1, 20_000, 1), 2_000)
 }
 
 const fn seconds(name: &'static str, meaning: &'static str, low: u32, high: u32, default: u32) -> Slot {

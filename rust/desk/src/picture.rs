@@ -3,7 +3,7 @@
 use crate::band::{self, Band};
 use crate::lanes::{self, Group, Lane, Tip};
 use crate::limits;
-use crate::names::{self, COMPENSATION, TABLE};
+use crate::names::{self, BREAKER_RATING, COMPENSATION, CT_RATING, TABLE};
 use crate::outputs::TAP;
 use crate::panel::{self, Label, Series, LABEL_ROW};
 use crate::run::History;
@@ -82,10 +82,11 @@ impl Picture<'_> {
         self.svg.text((20.0, 52.0), &self.settings(), small);
     }
 
-    /// The settings that the picture hangs on.
+    /// The settings that the picture hangs on; ratings that are equal change nothing.
     fn settings(&self) -> String {
         let compensation: &[&str] = match self.list[COMPENSATION] {
-            BY_U_COMP => &["U_comp"],
+            BY_U_COMP if self.list[CT_RATING] == self.list[BREAKER_RATING] => &["U_comp"],
+            BY_U_COMP => &["U_comp", "Inom_ct1", "Inom_bus1"],
             ALONG_RX => &["R_set", "X_set"],
             _ => &[],
         };

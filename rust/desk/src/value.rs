@@ -15,6 +15,7 @@ struct Measure {
 const VOLTS: [Measure; 2] = [measure("V", 1), measure("mV", 1000)];
 const AMPS: [Measure; 2] = [measure("A", 1), measure("mA", 1000)];
 const OHMS: [Measure; 4] = [measure("ohm", 1), measure("mohm", 1000), measure("Ω", 1), measure("mΩ", 1000)];
+const PRIMARY_AMPS: [Measure; 2] = [measure("A", 1000), measure("kA", 1)];
 const SECONDS: [Measure; 3] = [measure("s", TICK_MS), measure("ms", 1000 * TICK_MS), measure("ticks", 1000)];
 
 /// Unicode's sign for the unit, which is not the letter that looks like it.
@@ -32,6 +33,7 @@ pub fn text(slot: &Slot, number: u32) -> String {
         Kind::Volts => format!("{} V", decimal::text(thousandths)),
         Kind::Amps => format!("{} A", decimal::text(thousandths)),
         Kind::Ohms => format!("{} ohm", decimal::text(thousandths)),
+        Kind::PrimaryAmps => format!("{number} A"),
         Kind::Seconds => format!("{} s", decimal::text(thousandths * TICK_MS)),
         Kind::TapOrEmpty if number == 0 => "empty".to_string(),
         Kind::Number | Kind::TapOrEmpty => number.to_string(),
@@ -56,6 +58,7 @@ pub fn number(slot: &Slot, text: &str) -> Result<u32, String> {
         Kind::Volts => from_measure(&VOLTS, text),
         Kind::Amps => from_measure(&AMPS, text),
         Kind::Ohms => from_measure(&OHMS, text),
+        Kind::PrimaryAmps => from_measure(&PRIMARY_AMPS, text),
         Kind::Seconds => from_measure(&SECONDS, text),
         Kind::TapOrEmpty if text.eq_ignore_ascii_case("empty") => Ok(0),
         Kind::Number | Kind::TapOrEmpty => whole(text),

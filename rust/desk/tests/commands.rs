@@ -44,10 +44,13 @@ fn help_tells_of_a_drive_without_a_contact() {
 }
 
 #[test]
-fn help_tells_of_pairs() {
+fn help_tells_of_pairs_and_ratings() {
     let check = out(&avr(&["sheet", "check", "--help"]));
     let write = out(&avr(&["scenario", "write", "--help"]));
     for words in ["XB4 = RX ", "R_set = 4.5 ohm ", "up to 80 ohm with I_nom = 5 A, up to 400 ohm with 1 A"] {
+        assert!(check.contains(words), "{words}");
+    }
+    for words in ["Inom_ct1 = 2000 A ", "Inom_bus1 the breaker's", "2 kA"] {
         assert!(check.contains(words), "{words}");
     }
     for pair in &PAIRS {

@@ -166,6 +166,21 @@ fn pairs_are_drawn_by_magnitude_and_angle() {
     assert!(text.contains(" · R_set 1.5 ohm · X_set 3 ohm<"));
 }
 
+/// Under a picture by U_comp they stand where they are not equal.
+#[test]
+fn ratings_are_told_where_they_count() {
+    let scenario = "seconds,U_AB,I_bus,breaker,automatic\n0,100,0.5,1,1\n1,end\n";
+    let under = |sheet: &str| drawn(&format!("XB1 = on\n{sheet}"), scenario);
+    let told = " · U_comp 5 V · Inom_ct1 2000 A · Inom_bus1 1250 A<";
+    assert!(under("XB4 = U_comp\nInom_bus1 = 1250 A\n").contains(told));
+    for equal in ["", "Inom_ct1 = 1 A\nInom_bus1 = 1 A\n"] {
+        assert!(under(&format!("XB4 = U_comp\n{equal}")).contains(" · U_comp 5 V<"), "{equal}");
+    }
+    for without in ["", "XB4 = RX\n"] {
+        assert!(!under(&format!("{without}Inom_bus1 = 1250 A\n")).contains("Inom"), "{without}");
+    }
+}
+
 #[test]
 fn only_what_is_brought_is_drawn_of_the_pairs() {
     let rows = "0,100,100@0,1,1\n1,end\n";

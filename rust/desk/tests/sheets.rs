@@ -67,6 +67,29 @@ fn a_counted_tap_is_refused_with_continuous_regulation_alone() {
     }
 }
 
+/// In A, by what the ranges are and not by the table.
+#[test]
+fn ratings_go_from_1_to_20_000_a_with_either_module() {
+    for (slot, module) in [(66, 0), (67, 0), (66, 1), (67, 1)] {
+        for (number, taken) in [(0, false), (1, true), (20_000, true), (20_001, false), (u32::MAX, false)] {
+            let mut list = defaults(module);
+            list[slot] = number;
+            let wanted = if taken { None } else { Some(Refusal { number: 2, slot: slot as u32 }) };
+            assert_eq!(start(&list).err(), wanted, "slot {slot}, module {module}: {number}");
+        }
+    }
+    assert_eq!(
+        one_problem("Inom_bus1 = 0 A"),
+        "file:1: Inom_bus1 = 0 A: it takes 1 A to 20000 A in steps of 1 A (refusal 2, slot 67)"
+    );
+}
+
+/// So that a sheet without them is what it was before there were ratings.
+#[test]
+fn ratings_that_are_left_out_are_equal() {
+    assert_eq!(slot_of("XB4 = U_comp", 66), slot_of("XB4 = U_comp", 67));
+}
+
 /// In mΩ, by what the ranges are and not by the table.
 #[test]
 fn resistance_and_reactance_go_up_to_400_ohm_with_1_a_and_to_80_with_5() {
@@ -101,7 +124,7 @@ fn the_module_takes_0_and_1() {
     }
 }
 
-const MANUAL_DEFAULTS: [&str; 36] = [
+const MANUAL_DEFAULTS: [&str; 37] = [
     "I_nom = 1 A",
     "U_supp4 = 100 V",
     "dU_set = 2 V",
@@ -138,6 +161,7 @@ const MANUAL_DEFAULTS: [&str; 36] = [
     "XB4 = off",
     "R_set = 0 ohm",
     "X_set = 0 ohm",
+    "Inom_bus1 = 2000 A",
 ];
 
 #[test]
@@ -228,6 +252,10 @@ fn values_are_written_as_people_write_them() {
         ("X_set = 4500mΩ", 65, 4500),
         ("X_set = 0.001 \u{2126}", 65, 1),
         ("X_set = 400 ohm", 65, 400_000),
+        ("Inom_ct1 = 2000 A", 66, 2000),
+        ("Inom_ct1 = 1", 66, 1),
+        ("Inom_bus1 = 1.25 kA", 67, 1250),
+        ("Inom_bus1 = 20kA", 67, 20_000),
         ("XB5 = bus+coupler", 4, 3),
         ("XB5 = bus - coupler", 4, 2),
         ("XB17 = lasting", 16, 1),
@@ -414,6 +442,9 @@ fn bad_lines_are_told_with_their_line() {
         ("R_set = 4 kohm", "file:1: R_set = 4 kohm: has the unit `kohm`, and not ohm or mohm or Ω or mΩ; it takes 0 ohm to 400 ohm in steps of 0.001 ohm with I_nom = 1 A (slot 64)"),
         ("R_set = 0.0005", "file:1: R_set = 0.0005: has more than three decimals; it takes 0 ohm to 400 ohm in steps of 0.001 ohm with I_nom = 1 A (slot 64)"),
         ("x_set = 1", "file:1: no setting is called `x_set`; X_set is one"),
+        ("inom_bus1 = 1", "file:1: no setting is called `inom_bus1`; Inom_bus1 is one"),
+        ("Inom_ct1 = 5 mA", "file:1: Inom_ct1 = 5 mA: has the unit `mA`, and not A or kA; it takes 1 A to 20000 A in steps of 1 A (slot 66)"),
+        ("Inom_bus1 = 1250.5 A", "file:1: Inom_bus1 = 1250.5 A: is finer than a sheet can hold; it takes 1 A to 20000 A in steps of 1 A (slot 67)"),
         ("XB4 = R_set", "file:1: XB4 = R_set: is none of its words; it takes off or U_comp or RX (slot 3)"),
         ("N_R = 1.5", "file:1: N_R = 1.5: is not a whole number; it takes 1 to 40 in steps of 1 (slot 49)"),
         ("XB1 = 1", "file:1: XB1 = 1: is none of its words; it takes off or on (slot 0)"),

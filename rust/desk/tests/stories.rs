@@ -4,11 +4,12 @@ mod common;
 
 use std::fs;
 
-use common::{avr, between, check_texts, err, examples, Folder};
+use common::{avr, between, check_texts, err, examples, out, Folder};
 
-const STORIES: [&str; 14] = [
+const STORIES: [&str; 15] = [
     "acceleration",
     "band-edge",
+    "breaker-rating",
     "compensation",
     "continuous-in-band",
     "continuous-long",
@@ -57,6 +58,19 @@ fn each_story_is_as_stored() {
     }
 }
 
+/// The load that the unit answers with these ratings is too small with equal ones.
+#[test]
+fn the_ratings_decide_whether_the_unit_raises() {
+    let folder = Folder::new("ratings");
+    let lines = read("breaker-rating", "sheet.txt");
+    let equal: Vec<&str> = lines.lines().filter(|line| !line.starts_with("Inom_")).collect();
+    let (sheet, scenario) = (folder.write("a.txt", &equal.join("\n")), path("breaker-rating", "scenario.csv"));
+    let output = avr(&["run", "--sheet", &sheet, "--scenario", &scenario]);
+    assert!(output.status.success(), "{}", err(&output));
+    assert!(!out(&output).contains("command"), "{}", out(&output));
+    assert!(read("breaker-rating", "table.txt").contains("LOWER command"));
+}
+
 #[test]
 fn each_story_is_told() {
     for (story, told) in [
@@ -71,6 +85,7 @@ fn each_story_is_told() {
         ("organ-blocks", vec!["TRIP: I_bus over I_set2", "out  automatic blocked", "out  automatic free"]),
         ("band-edge", vec!["U_AB 100.0994 V\n     40.005", "U_AB 100.1 V\n                        out  voltage high"]),
         ("compensation", vec!["I_bus 0.4 A\n                        out  voltage low"]),
+        ("breaker-rating", vec!["I_bus 0.5 A\n                        out  voltage low", "20.000       4000  out  RAISE"]),
         ("long-feeder", vec!["20.000       4000  out  RAISE command", "50.000      10000  out  RAISE command", TURNED]),
         ("continuous-in-band", vec!["30.000       6000  out  RAISE command", "out  tap 10", "out  tap 11", IN_BAND]),
         ("continuous-long", vec!["10.000       2000  out  RAISE command", LONG, RESET, AFTER_T1]),

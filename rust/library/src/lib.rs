@@ -6,7 +6,7 @@
 use std::mem::{size_of, transmute};
 
 /// Numbers of a setting sheet.
-pub const SLOTS: usize = 66;
+pub const SLOTS: usize = 68;
 
 /// Measuring organs.
 pub const ORGANS: usize = 7;
