@@ -13,13 +13,13 @@ use Rattle.slots.specs.Slots.{slot, uComp, ctRating, breakerRating}
 use Rattle.sheet.specs.Table.{moduleFactor}
 use Rattle.sheet.specs.Sheet.{passesOf}
 use Rattle.sheet.proofs.Laws.{uComp-range, ct-range, breaker-range}
-use Rattle.busbar.specs.Voltage.{dropOf, unratedDrop, isRating, isRated, voltageDrop}
+use Rattle.busbar.specs.Voltage.{dropOf, moduleDrop, isRating, isRated, voltageDrop}
 use Rattle.busbar.specs.declared.voltage.Value.the-variants.{Is}
 use Rattle.busbar.proofs.Values.{factor-positive, divisor-positive, breaker-rated}
 
 -- "01's case stands for equal ratings"
-pub equal-ratings : (comp : ℕ) (i : ℤ) (k n : ℕ) → 0 < n → dropOf comp i k n n ≡ unratedDrop comp i k
-unfolding dropOf unratedDrop
+pub equal-ratings : (comp : ℕ) (i : ℤ) (k n : ℕ) → 0 < n → dropOf comp i k n n ≡ moduleDrop comp i k
+unfolding dropOf moduleDrop
 equal-ratings comp i k n h = quot-cancel (pos comp *ℤ i) (1000 * k) n h
 
 module _ (s : List ℕ) (e : passesOf s ≡ true) where
@@ -42,8 +42,8 @@ module _ (s : List ℕ) (e : passesOf s ≡ true) where
     taken-drop = sym (yes _ _ _ (isRated s) taken-rated refl)
 
     -- and 01's where the ratings are equal
-    pub unrated-drop : slot s ctRating ≡ slot s breakerRating → voltageDrop s (Is i) ≡ Is (unratedDrop (slot s uComp) i (moduleFactor s))
-    unrated-drop q =
+    pub module-drop : slot s ctRating ≡ slot s breakerRating → voltageDrop s (Is i) ≡ Is (moduleDrop (slot s uComp) i (moduleFactor s))
+    module-drop q =
         taken-drop
         ∙ ap (λ (n : ℕ). Is (dropOf (slot s uComp) i (moduleFactor s) n (slot s breakerRating))) q
         ∙ ap Is (equal-ratings (slot s uComp) i (moduleFactor s) (slot s breakerRating) (breaker-range s e .0))

@@ -22,7 +22,7 @@ use Rattle.measure.specs.declared.Measured.{Measured}
 use Rattle.measure.specs.declared.Measured.the-variants as measured
 use Rattle.sheet.specs.Table.{moduleFactor}
 use Rattle.busbar.specs.Section.{goodAbove}
-use Rattle.busbar.specs.Voltage.{highest, readingOf, goodOf, both, sumOf, differenceOf, currentOf, mostComp, mostRating, dropOf, isRating, isRated, voltageDrop, Within}
+use Rattle.busbar.specs.Voltage.{highest, readingOf, goodOf, both, sumOf, differenceOf, currentOf, mostCurrent, mostComp, mostRating, dropOf, isRating, isRated, voltageDrop, Within}
 use Rattle.busbar.specs.Deviation.{bandOf, levelOf, farAbove}
 use Rattle.busbar.specs.declared.voltage.Level.{Level}
 use Rattle.busbar.specs.declared.voltage.Level.the-variants as level
@@ -114,15 +114,15 @@ both-le f l n (Is x) Missing h k = tt
 both-le f l n (Is x) (Is y) h k = omega (arith, l x y)
 
 -- |I| is at most the sum of the two currents
-pub current-within : (r : Value) (s : List ℕ) (bus coupler : Measured) → r ≡ currentOf s bus coupler → Within 400000 r
+pub current-within : (r : Value) (s : List ℕ) (bus coupler : Measured) → r ≡ currentOf s bus coupler → Within mostCurrent r
 unfolding currentOf
 current-within r s bus coupler e =
     let b = good-le bus in
     let c = good-le coupler in
     rw e
-    (chosen (Within 400000) (eqb (slot s compensationCurrent) 0) _ _ (λ p. more highest 400000 _ (lit≤ tt) b)
-    (λ p. chosen (Within 400000) (eqb (slot s compensationCurrent) 1) _ _ (λ q. more highest 400000 _ (lit≤ tt) c)
-    (λ q. chosen (Within 400000) (eqb (slot s compensationCurrent) 2) _ _ (λ o. both-le _-ℤ_ natAbs-sub highest _ _ b c)
+    (chosen (Within mostCurrent) (eqb (slot s compensationCurrent) 0) _ _ (λ p. more highest mostCurrent _ (lit≤ tt) b)
+    (λ p. chosen (Within mostCurrent) (eqb (slot s compensationCurrent) 1) _ _ (λ q. more highest mostCurrent _ (lit≤ tt) c)
+    (λ q. chosen (Within mostCurrent) (eqb (slot s compensationCurrent) 2) _ _ (λ o. both-le _-ℤ_ natAbs-sub highest _ _ b c)
     (λ o. both-le _+ℤ_ natAbs-add highest _ _ b c))))
 
 -- ---- the drop
@@ -151,11 +151,11 @@ module _ (k breaker : ℕ) (e : isRating breaker ≡ true) where
     pub divisor-signed : SFits w64 (pos (1000 * k * breaker))
     divisor-signed = record { sfits = omega (arith, divisor-le) }
 
-module _ (comp : ℕ) (i : ℤ) (ct : ℕ) (small-comp : comp ≤ mostComp) (small-i : natAbs i ≤ 400000) (e : isRating ct ≡ true) where
-  product : Stands (toZ w64 comp *ℤ read i) (pos comp *ℤ i) (mostComp * 400000)
+module _ (comp : ℕ) (i : ℤ) (ct : ℕ) (small-comp : comp ≤ mostComp) (small-i : natAbs i ≤ mostCurrent) (e : isRating ct ≡ true) where
+  product : Stands (toZ w64 comp *ℤ read i) (pos comp *ℤ i) (mostComp * mostCurrent)
   product = mul (cast-to mostComp small-comp tt) (back (exactly i small-i) tt)
 
-  rated : Stands (read (toZ w64 comp *ℤ read i) *ℤ toZ w64 ct) (pos comp *ℤ i *ℤ pos ct) (mostComp * 400000 * mostRating)
+  rated : Stands (read (toZ w64 comp *ℤ read i) *ℤ toZ w64 ct) (pos comp *ℤ i *ℤ pos ct) (mostComp * mostCurrent * mostRating)
   rated = mul (back product tt) (cast-to mostRating (rating-le ct e) tt)
 
   pub product-fits : SFits w64 (toZ w64 comp *ℤ read i)
@@ -165,7 +165,7 @@ module _ (comp : ℕ) (i : ℤ) (ct : ℕ) (small-comp : comp ≤ mostComp) (sma
   rated-fits = fits rated tt
 
   module _ (k breaker : ℕ) (small-k : k ≤ 5) (f : isRating breaker ≡ true) where
-    quotient : Stands (quotZ (read (read (toZ w64 comp *ℤ read i) *ℤ toZ w64 ct)) (toZ w64 (1000 * k * breaker))) (dropOf comp i k ct breaker) (mostComp * 400000 * mostRating)
+    quotient : Stands (quotZ (read (read (toZ w64 comp *ℤ read i) *ℤ toZ w64 ct)) (toZ w64 (1000 * k * breaker))) (dropOf comp i k ct breaker) (mostComp * mostCurrent * mostRating)
     unfolding dropOf
     quotient = quot (back rated tt) (cast (divisor-fits k breaker f small-k))
 
@@ -202,8 +202,8 @@ pub factor-le : (r : ℕ) (s : List ℕ) → r ≡ moduleFactor s → r ≤ 5
 unfolding moduleFactor
 factor-le r s e = rw e (chosen (λ (n : ℕ). n ≤ 5) (eqb (slot s moduleKind) 1) 5 1 (λ p. lit≤ tt) (λ p. lit≤ tt))
 
-pub current-read : (v : Value) (z : ℤ) → v ≡ Is z → Within 400000 v → natAbs (read z) ≤ 400000
-current-read v z p h = small (back (exactly z (within-is 400000 v z p h)) tt)
+pub current-read : (v : Value) (z : ℤ) → v ≡ Is z → Within mostCurrent v → natAbs (read z) ≤ mostCurrent
+current-read v z p h = small (back (exactly z (within-is mostCurrent v z p h)) tt)
 
 module _ (s : List ℕ) (v : Value) where
   pub drop-missing : v ≡ Missing → Missing ≡ voltageDrop s v
@@ -214,11 +214,11 @@ module _ (s : List ℕ) (v : Value) where
   unfolding voltageDrop
   drop-unrated z t p e u = rw p (no-told Missing _ _ t (isRated s) e u refl)
 
-  pub drop-made : (z r : ℤ) (k : ℕ) (t : Bool) → v ≡ Is z → Within 400000 v → t ≡ isRated s → t ≡ true → k ≡ moduleFactor s
+  pub drop-made : (z r : ℤ) (k : ℕ) (t : Bool) → v ≡ Is z → Within mostCurrent v → t ≡ isRated s → t ≡ true → k ≡ moduleFactor s
       → r ≡ dropOf (slot s uComp) (read z) k (slot s ctRating) (slot s breakerRating) → natAbs r ≤ 2 ^ 60 → Is (read r) ≡ voltageDrop s v
   unfolding voltageDrop
   drop-made z r k t p h u y e q l =
-      let here : read z ≡ z = back (exactly z (within-is 400000 v z p h)) tt .is in
+      let here : read z ≡ z = back (exactly z (within-is mostCurrent v z p h)) tt .is in
       let there : read r ≡ r = back (exactly r l) tt .is in
       rw p (yes-told (Is (read r)) _ _ t (isRated s) u y (cc))
 

@@ -13,9 +13,13 @@ use Rattle.sheet.specs.Table.{moduleFactor}
 use Rattle.busbar.specs.declared.voltage.Value.{Value}
 use Rattle.busbar.specs.declared.voltage.Value.the-variants.{Missing, Is}
 
--- 200 V, or 200 A of a 5 A module, in thousandths
+-- 200 V, or 200 A of a 5 A module, in thousandths: no reading is above it
 abbrev pub highest : ℕ
 highest = 200000
+
+-- nor is a current that is the sum of two above this
+abbrev pub mostCurrent : ℕ
+mostCurrent = 400000
 
 -- "a number that is .. above 200 V or 40 × k A is missing": `measure` gives none
 abbrev pub readingOf : ℕ → Value
@@ -51,9 +55,9 @@ currentOf s bus coupler =
 unfoldable pub dropOf : ℕ → ℤ → ℕ → ℕ → ℕ → ℤ
 dropOf comp i k ct breaker = quotZ (pos comp *ℤ i *ℤ pos ct) (pos (1000 * k * breaker))
 
--- 01's drop, without ratings: "U_comp × I ÷ (1,000k), rounded toward zero"; 02, ticket 5: "01's case stands for equal ratings"
-unfoldable pub unratedDrop : ℕ → ℤ → ℕ → ℤ
-unratedDrop comp i k = quotZ (pos comp *ℤ i) (pos (1000 * k))
+-- 01's drop, by the module's rating: "U_comp × I ÷ (1,000k), rounded toward zero"; 02, ticket 5: "01's case stands for equal ratings"
+unfoldable pub moduleDrop : ℕ → ℤ → ℕ → ℤ
+moduleDrop comp i k = quotZ (pos comp *ℤ i) (pos (1000 * k))
 
 -- no taken sheet has a U_comp above this, in mV
 abbrev pub mostComp : ℕ

@@ -4,7 +4,7 @@ ghost use mathlib.Core.Bool.{true};
 ghost use Prim.Native.Nat.{_≤_, _<_, _^_};
 ghost use lib.IntN.{pos, natAbs, _*ℤ_};
 ghost use lib.Signed.{leZ, ltZ};
-ghost use Rattle.busbar.specs.Voltage.{readingOf, goodOf, sumOf, differenceOf, currentOf, mostComp, dropOf, isRating, isRated, voltageDrop, voltageOf, Within};
+ghost use Rattle.busbar.specs.Voltage.{readingOf, goodOf, sumOf, differenceOf, currentOf, mostCurrent, mostComp, dropOf, isRating, isRated, voltageDrop, voltageOf, Within};
 ghost use Rattle.busbar.specs.Deviation.{supplyOf, lowOf, highOf, bandOf, levelOf, farAbove};
 use measure::Measured;
 use slots::BREAKER_RATING;
@@ -110,7 +110,7 @@ fn current(s: &[u32; SLOTS], i_bus: Measured, i_coupler: Measured) -> Value
 
 // U_comp × I × the current transformer's rating, divided once by 1,000k × the breaker's, toward zero.
 fn drop_at(u_comp: u32, i: i64, k: u32, ct: u32, breaker: u32) -> i64
-    requires { ⌜ («u_comp» ≤ mostComp) × (natAbs i ≤ 400000) × (0 < k) × (k ≤ 5) × (isRating ct ≡ true) × (isRating breaker ≡ true) ⌝ }
+    requires { ⌜ («u_comp» ≤ mostComp) × (natAbs i ≤ mostCurrent) × (0 < k) × (k ≤ 5) × (isRating ct ≡ true) × (isRating breaker ≡ true) ⌝ }
     ensures { λ r. ⌜ (r ≡ dropOf «u_comp» i k ct breaker) × (natAbs r ≤ 2 ^ 60) ⌝ }
 {
     (u_comp as i64) * i * (ct as i64) / ((1000 * k * breaker) as i64)
@@ -132,7 +132,7 @@ fn is_rated(s: &[u32; SLOTS]) -> bool
 
 // The drop by U_comp, missing if I is.
 fn voltage_drop(s: &[u32; SLOTS], i: Value) -> Value
-    requires { ⌜ Within 400000 i ⌝ }
+    requires { ⌜ Within mostCurrent i ⌝ }
     ensures { λ r. ⌜ (r ≡ voltageDrop (now (s .entry)) i) × Within (2 ^ 60) r ⌝ }
 {
     match i {
