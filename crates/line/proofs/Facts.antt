@@ -12,7 +12,7 @@ use Rattle.common.proofs.Cases.{yes}
 use Rattle.slots.specs.Slots.{slot, moduleKind, compensationCurrent, resistance, reactance}
 use Rattle.phasor.specs.declared.Phasors.{Phasors}
 use Rattle.phasor.specs.declared.Vector.{Vector}
-use Rattle.phasor.specs.declared.Vector.the-variants.{Missing, Is}
+use Rattle.phasor.specs.declared.Vector.the-variants.{Is}
 use Rattle.root.specs.Roots.{rootOf, Root}
 use Rattle.root.proofs.Laws.{root-is, root-monotone}
 use Rattle.busbar.specs.declared.voltage.Value.{Value}
