@@ -1,6 +1,5 @@
--- The worked values of rule 6, as one list and one statement (01, 'Bench values'; the values of U, and of the drop by two ratings, go
--- beyond the paper's).
--- A sheet that gives no ratings has 1,250 A for both, which is 01's case.
+-- The worked values of rule 6, as one list and one statement (01, 'Bench values'; those of U, and of the drop by two ratings, go beyond
+-- the paper's). A star that gives no ratings has 1,250 A for both, which is 01's case.
 use mathlib.Core.Path.{_≡_, refl}
 use mathlib.Core.Bool.{false}
 use mathlib.Core.List.{List, [], _∷_, map}

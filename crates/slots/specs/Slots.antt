@@ -138,7 +138,7 @@ resistance = 64
 abbrev pub reactance : ℕ
 reactance = 65
 
--- 02, ticket 5: "Slots 66 and 67 are the transformer's and the breaker's primary rating", in A; the current transformer's
+-- 02, ticket 5: "Slots 66 and 67 are the transformer's and the breaker's primary rating", in A; CT is the current transformer
 abbrev pub ctRating : ℕ
 ctRating = 66
 
