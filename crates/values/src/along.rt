@@ -288,31 +288,19 @@ pub(crate) fn print_listed() {
     print_rows(&LISTED);
 }
 
-// The row of six numbers in a row of numbers that look like chance; `last` is the last of them.
-struct Drawn {
-    row: Row,
-    last: u64,
-}
-
-fn draw(seed: u64) -> Drawn {
-    let a = readings::next(seed);
-    let b = readings::next(a);
-    let c = readings::next(b);
-    let d = readings::next(c);
-    let e = readings::next(d);
-    let f = readings::next(e);
+// The row of six numbers that look like chance.
+fn row_of(n: readings::Six) -> Row {
     let parts = PARTS as u64;
-    let row = Row {
-        r: (a % parts) as u32,
-        x: (b % parts) as u32,
-        u_re: (c % parts) as u32,
-        u_im: (d % parts) as u32,
-        bus_re: (e % parts) as u32,
-        bus_im: (f % parts) as u32,
+    Row {
+        r: (n.a % parts) as u32,
+        x: (n.b % parts) as u32,
+        u_re: (n.c % parts) as u32,
+        u_im: (n.d % parts) as u32,
+        bus_re: (n.e % parts) as u32,
+        bus_im: (n.f % parts) as u32,
         coupler_re: ZERO,
         coupler_im: ZERO,
-    };
-    Drawn { row: row, last: f }
+    }
 }
 
 // What U adds to the checksum.
@@ -328,9 +316,9 @@ fn generated() -> u64 {
     let mut sum = sum::START;
     let mut i: u64 = 0;
     while i < 20_000 {
-        let d = draw(seed);
-        seed = d.last;
-        sum = sum::add(sum, weight(voltage(d.row)));
+        let n = readings::next_six(seed);
+        seed = n.f;
+        sum = sum::add(sum, weight(voltage(row_of(n))));
         i += 1;
     }
     sum

@@ -217,29 +217,17 @@ const STEPS: u64 = 391;
 
 const READINGS: u64 = 200_001;
 
-// The row, with a 5 A module, of six numbers in a row of numbers that look like chance; `last` is the last of them.
-struct Drawn {
-    row: Row,
-    last: u64,
-}
-
-fn draw(seed: u64) -> Drawn {
-    let a = readings::next(seed);
-    let b = readings::next(a);
-    let c = readings::next(b);
-    let d = readings::next(c);
-    let e = readings::next(d);
-    let f = readings::next(e);
-    let row = Row {
+// The row of six numbers that look like chance, with a 5 A module.
+fn row_of(n: readings::Six) -> Row {
+    Row {
         module: 1,
-        u_comp: 1000 + 100 * (a % STEPS) as u32,
-        ct: 1 + (b % RATINGS) as u32,
-        breaker: 1 + (c % RATINGS) as u32,
-        u_ab: (d % READINGS) as u32,
-        i_bus: (e % READINGS) as u32,
-        i_coupler: (f % READINGS) as u32,
-    };
-    Drawn { row: row, last: f }
+        u_comp: 1000 + 100 * (n.a % STEPS) as u32,
+        ct: 1 + (n.b % RATINGS) as u32,
+        breaker: 1 + (n.c % RATINGS) as u32,
+        u_ab: (n.d % READINGS) as u32,
+        i_bus: (n.e % READINGS) as u32,
+        i_coupler: (n.f % READINGS) as u32,
+    }
 }
 
 // What a number adds to the checksum: an even number, or an odd one where it is below 0.
@@ -262,9 +250,9 @@ fn generated() -> u64 {
     let mut sum = sum::START;
     let mut i: u64 = 0;
     while i < 20_000 {
-        let d = draw(seed);
-        seed = d.last;
-        sum = sum::add(sum, weight(voltage(d.row)));
+        let n = readings::next_six(seed);
+        seed = n.f;
+        sum = sum::add(sum, weight(voltage(row_of(n))));
         i += 1;
     }
     sum

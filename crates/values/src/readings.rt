@@ -102,6 +102,33 @@ pub(crate) fn next(seed: u64) -> u64 {
     (seed % 0x8000_0000 * 1_103_515_245 + 12_345) % 0x8000_0000
 }
 
+// The next six.
+pub(crate) struct Six {
+    pub(crate) a: u64,
+    pub(crate) b: u64,
+    pub(crate) c: u64,
+    pub(crate) d: u64,
+    pub(crate) e: u64,
+    pub(crate) f: u64,
+}
+
+pub(crate) fn next_six(seed: u64) -> Six {
+    let a = next(seed);
+    let b = next(a);
+    let c = next(b);
+    let d = next(c);
+    let e = next(d);
+    let f = next(e);
+    Six {
+        a: a,
+        b: b,
+        c: c,
+        d: d,
+        e: e,
+        f: f,
+    }
+}
+
 // Any pattern on each third turn, and on the others a number from 2^-11 to below 2^19.
 pub(crate) fn pattern(i: u64, seed: u64) -> u32 {
     if i % 3 == 0 {

@@ -14,8 +14,11 @@ abbrev μ-loop : tie.MeasureT-loop
 loop-holds : tie.Need-loop-holds Inv-loop μ-loop
 loop-holds c = search needs
 
-draw-requires : tie.Need-draw-requires Inv-loop μ-loop
-draw-requires c κs = search needs
+next-six-requires : tie.Need-next-six-requires Inv-loop μ-loop
+next-six-requires c κs = search needs
+
+row-of-requires : tie.Need-row-of-requires Inv-loop μ-loop
+row-of-requires c κs = search needs
 
 voltage-requires : tie.Need-voltage-requires Inv-loop μ-loop
 voltage-requires c κs = search needs
@@ -45,7 +48,8 @@ generated-spec =
     Inv-loop
     μ-loop
     loop-holds
-    draw-requires
+    next-six-requires
+    row-of-requires
     voltage-requires
     weight-requires
     add-requires
