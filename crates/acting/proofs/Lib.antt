@@ -1,3 +1,4 @@
 pub mod EachKind
 pub mod Parts
 pub mod Made
+pub mod Presses

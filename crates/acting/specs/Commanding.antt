@@ -1,6 +1,6 @@
--- Rule 9 of 01. Definitions only.
+-- Rule 9 of 01, and 02, ticket 6. Definitions only.
 use Prim.Native.Nat.{ℕ}
-use mathlib.Core.Bool.{Bool, _&&_}
+use mathlib.Core.Bool.{Bool, _&&_, _||_}
 use mathlib.Core.List.{List}
 use Rattle.input.specs.declared.Contacts.{Contacts}
 use Rattle.drive.specs.declared.Drive.{Drive}
@@ -8,11 +8,15 @@ use Rattle.drive.specs.declared.Drive.the-variants.{Asked}
 use Rattle.ways.specs.declared.Way.{Way}
 use Rattle.ways.specs.declared.Way.the-variants.{Neither, To}
 use Rattle.drive.specs.Follow.{restsOf}
+use Rattle.fault.specs.declared.Fault.{Fault}
+use Rattle.fault.specs.Latches.{isFault}
 use Rattle.blocks.specs.declared.Blocks.{Blocks}
+use Rattle.command.specs.declared.Buttons.{Buttons}
 use Rattle.command.specs.declared.Decided.{Decided}
 use Rattle.command.specs.declared.Situation.{Situation}
 use Rattle.command.specs.Automatic.{repeatOf}
 use Rattle.command.specs.Deciding.{decidedOf}
+use Rattle.command.specs.Manual.{rememberedOf}
 use Rattle.sensing.specs.declared.assessing.Assessed.{Assessed}
 use Rattle.acting.specs.declared.commanding.Memory.{Memory}
 use Rattle.acting.specs.declared.commanding.Regulated.{Regulated}
@@ -22,6 +26,10 @@ use Rattle.acting.specs.Judging.{sideOf, isInBand}
 unfoldable pub askOf : Drive → Bool → Way → Drive
 askOf d automatic Neither = d
 askOf d automatic (To e) = Asked e 0 automatic
+
+-- bits 19 and 20
+abbrev pub buttonsOf : Contacts → Buttons
+buttonsOf c = record { raise = c .«raise_button»; lower = c .«lower_button» }
 
 -- what rule 9 goes by; the drive "rested at tick start and still does"
 unfoldable pub situationOf : Contacts → Assessed → Blocks → Memory → Drive → Situation
@@ -34,8 +42,9 @@ situationOf c a b m d =
       blocks = b;
       wait = m .wait;
       repeat = m .repeat;
-      buttons = record { raise = c .«raise_button»; lower = c .«lower_button» };
+      buttons = buttonsOf c;
       before = m .buttons;
+      remembered = m .remembered;
     }
 
 unfoldable pub decisionOf : List ℕ → Contacts → Assessed → Blocks → Memory → Drive → Decided
@@ -49,3 +58,11 @@ regulatedOf s c a b m d =
       wait = decisionOf s c a b m d .wait;
       repeat = repeatOf (c .automatic) (isInBand (a .level)) (sideOf (a .level)) (decisionOf s c a b m d .command) (m .repeat);
     }
+
+-- 02, ticket 6: "fault, automatic, local drive and out drop it"; out is rule 1, whose fresh record holds none
+unfoldable pub dropsOf : Contacts → Fault → Bool
+dropsOf c f = isFault f || c .automatic || c .«local_drive»
+
+-- the press that is remembered after the tick; f is the fault as rule 7 left it
+unfoldable pub keptPressOf : Contacts → Fault → Memory → Way
+keptPressOf c f m = rememberedOf (restsOf (m .drive)) (dropsOf c f) (buttonsOf c) (m .buttons) (m .remembered)

@@ -1,12 +1,13 @@
-// Rule 9, the wait and the command.
+// Rule 9, the wait and the command; the press that is remembered.
 ghost use mathlib.Core.Path.{_≡_};
-ghost use Rattle.acting.specs.Commanding.{askOf, situationOf, regulatedOf};
+ghost use Rattle.acting.specs.Commanding.{askOf, buttonsOf, situationOf, regulatedOf, dropsOf, keptPressOf};
 use crate::judging;
 use blocks::Blocks;
 use command::Buttons;
 use command::Situation;
 use command::Wait;
 use drive::Drive;
+use fault::Fault;
 use input::Contacts;
 use sensing::assessing::Assessed;
 use slots::SLOTS;
@@ -26,18 +27,30 @@ fn ask(d: Drive, automatic: bool, command: Way) -> Drive
     }
 }
 
-// What of the record rule 9 goes by: the drive at tick start, the wait, the side of the last automatic command, the buttons.
+// What of the record rule 9 goes by: the drive at tick start, the wait, the side of the last automatic command, the buttons and
+// the remembered press.
 pub struct Memory {
     pub drive: Drive,
     pub wait: Wait,
     pub repeat: Way,
     pub buttons: Buttons,
+    pub remembered: Way,
 }
 
 pub struct Regulated {
     pub drive: Drive,
     pub wait: Wait,
     pub repeat: Way,
+}
+
+// The buttons that are pressed on this tick.
+pub fn buttons_of(c: Contacts) -> Buttons
+    ensures { λ r. ⌜ r ≡ buttonsOf c ⌝ }
+{
+    Buttons {
+        raise: c.raise_button,
+        lower: c.lower_button,
+    }
 }
 
 fn situation(c: Contacts, a: Assessed, b: Blocks, m: Memory, d: Drive) -> Situation
@@ -50,7 +63,9 @@ fn situation(c: Contacts, a: Assessed, b: Blocks, m: Memory, d: Drive) -> Situat
     let side = judging::side_of(level);
     let wait = m.wait;
     let repeat = m.repeat;
+    let buttons = buttons_of(c);
     let before = m.buttons;
+    let remembered = m.remembered;
     Situation {
         resting: rested & rests,
         automatic: c.automatic,
@@ -59,11 +74,9 @@ fn situation(c: Contacts, a: Assessed, b: Blocks, m: Memory, d: Drive) -> Situat
         blocks: b,
         wait: wait,
         repeat: repeat,
-        buttons: Buttons {
-            raise: c.raise_button,
-            lower: c.lower_button,
-        },
+        buttons: buttons,
         before: before,
+        remembered: remembered,
     }
 }
 
@@ -93,4 +106,25 @@ pub fn regulate(
         wait: wait,
         repeat: repeat,
     }
+}
+
+// What drops a remembered press, out aside: a fault, automatic mode, local drive.
+fn drops(c: Contacts, f: Fault) -> bool
+    ensures { λ r. ⌜ r ≡ dropsOf c f ⌝ }
+{
+    let fault = fault::is_fault(f);
+    fault | c.automatic | c.local_drive
+}
+
+// The press that is remembered after this tick. `f` is the fault as rule 7 left it.
+pub fn remember(c: Contacts, f: Fault, m: Memory) -> Way
+    ensures { λ r. ⌜ r ≡ keptPressOf c f m ⌝ }
+{
+    let was = m.drive;
+    let rested = drive::follow::rests(was);
+    let dropped = drops(c, f);
+    let now = buttons_of(c);
+    let before = m.buttons;
+    let earlier = m.remembered;
+    command::manual::remember(rested, dropped, now, before, earlier)
 }

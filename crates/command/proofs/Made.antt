@@ -11,12 +11,13 @@ use Rattle.ways.specs.declared.Way.{Way}
 use Rattle.ways.specs.declared.Way.the-variants.{Neither, To}
 use Rattle.ways.specs.Ways.{raises, lowers, isTo, otherOf, newerOf}
 use Rattle.blocks.specs.Blocked.{opposedOf}
+use Rattle.command.specs.declared.Buttons.{Buttons}
 use Rattle.command.specs.declared.Wait.{Wait}
 use Rattle.command.specs.declared.Wait.the-variants.{Idle, For}
 use Rattle.command.specs.declared.Situation.{Situation}
 use Rattle.command.specs.declared.Decided.{Decided}
 use Rattle.command.specs.Automatic.{idleOf, ticksOf, waitedOf, delayOf, waitOnOf, towardOf, sidedOf, keptOf, repeatOf}
-use Rattle.command.specs.Manual.{pressOf, manualOf}
+use Rattle.command.specs.Manual.{pressedOf, pressOf, soughtOf, manualOf, rememberedOf}
 
 -- the wait to a side
 module _ (n : ℕ) (d : Direction) where
@@ -76,7 +77,11 @@ unfolding repeatOf
 repeat-automatic automatic inBand side command old r e q t = rw (← e) (yes _ _ _ _ t q)
 
 -- a press
-module _ (x : Situation) (r : Decided) {press : Way} {up down : Bool} (p : press ≡ pressOf x) (u : up ≡ raises press) (w : down ≡ lowers press) where
+pub sought-made : (x : Situation) {press r : Way} → press ≡ pressOf x → r ≡ newerOf press (x .remembered) → r ≡ soughtOf x
+unfolding soughtOf
+sought-made x p q = rw (← p) q
+
+module _ (x : Situation) (r : Decided) {press : Way} {up down : Bool} (p : press ≡ soughtOf x) (u : up ≡ raises press) (w : down ≡ lowers press) where
   pub manual-pressed : (up && not (x .blocks .manual) && not (x .blocks .raise) || down && not (x .blocks .manual) && not (x .blocks .lower)) ≡ true
       → r ≡ record { command = press; wait = Idle } → r ≡ manualOf x
   unfolding manualOf
@@ -87,5 +92,16 @@ module _ (x : Situation) (r : Decided) {press : Way} {up down : Bool} (p : press
   unfolding manualOf
   manual-idle t q = rw (← p, ← u, ← w) (no _ _ _ _ t q)
 
+-- the press that is remembered
+module _ (rested dropped : Bool) (now before : Buttons) (old r : Way) where
+  pub remembered-none : (rested || dropped) ≡ true → r ≡ Neither → r ≡ rememberedOf rested dropped now before old
+  unfolding rememberedOf
+  remembered-none t q = yes _ _ _ _ t q
+
+  pub remembered-newer : {latest : Way} → latest ≡ pressedOf now before → (rested || dropped) ≡ false → r ≡ newerOf latest old
+      → r ≡ rememberedOf rested dropped now before old
+  unfolding rememberedOf
+  remembered-newer p t q = rw (← p) (no _ _ _ _ t q)
+
 pub ruleset made =
-    (waited-idle, waited-for, delay-far, delay-repeat, delay-first, toward-blocked, toward-free, sided-neither, sided-to, kept-not, kept-on, repeat-automatic, manual-pressed, manual-idle, cases)
+    (waited-idle, waited-for, delay-far, delay-repeat, delay-first, toward-blocked, toward-free, sided-neither, sided-to, kept-not, kept-on, repeat-automatic, sought-made, manual-pressed, manual-idle, remembered-none, remembered-newer, cases)

@@ -1,10 +1,10 @@
--- Rule 9 of 01 in manual mode. Definitions only.
-use mathlib.Core.Bool.{not, _&&_, _||_}
+-- Rule 9 of 01 in manual mode, and 02, ticket 6. Definitions only.
+use mathlib.Core.Bool.{Bool, not, _&&_, _||_}
 use Rattle.common.specs.Choice.{choose}
 use Rattle.ways.specs.declared.Direction.the-variants.{Raise, Lower}
 use Rattle.ways.specs.declared.Way.{Way}
 use Rattle.ways.specs.declared.Way.the-variants.{Neither, To}
-use Rattle.ways.specs.Ways.{raises, lowers}
+use Rattle.ways.specs.Ways.{raises, lowers, newerOf}
 use Rattle.command.specs.declared.Buttons.{Buttons}
 use Rattle.command.specs.declared.Wait.the-variants.{Idle}
 use Rattle.command.specs.declared.Situation.{Situation}
@@ -20,11 +20,22 @@ pressedOf now before =
 abbrev pub pressOf : Situation → Way
 pressOf x = pressedOf (x .buttons) (x .before)
 
+-- 02, ticket 6, on the first tick that starts with the drive at rest: a remembered press "is carried out as if pressed alone then"; "a real
+-- press on that tick wins"
+unfoldable pub soughtOf : Situation → Way
+soughtOf x = newerOf (pressOf x) (x .remembered)
+
 -- "manual and the direction unblocked"
 unfoldable pub manualOf : Situation → Decided
 manualOf x =
     choose
-    (raises (pressOf x) && not (x .blocks .manual) && not (x .blocks .raise)
-    || lowers (pressOf x) && not (x .blocks .manual) && not (x .blocks .lower))
-    (record { command = pressOf x; wait = Idle })
+    (raises (soughtOf x) && not (x .blocks .manual) && not (x .blocks .raise)
+    || lowers (soughtOf x) && not (x .blocks .manual) && not (x .blocks .lower))
+    (record { command = soughtOf x; wait = Idle })
     idleOf
+
+-- 02, ticket 6: "one press, as rule 9 judges it, blocks aside, made on a tick that starts with a command or move unfinished is remembered in
+-- the record, the latest replacing the earlier one; two buttons newly pressed together change nothing". A tick that starts with the drive
+-- at rest leaves none: there "it is carried out .. or dropped".
+unfoldable pub rememberedOf : Bool → Bool → Buttons → Buttons → Way → Way
+rememberedOf rested dropped now before old = choose (rested || dropped) Neither (newerOf (pressedOf now before) old)

@@ -25,7 +25,7 @@ pub struct Buttons {
 
 // What rule 9 goes by. `resting`: the drive rested at tick start and still does. `side`: the command that the deviation asks
 // for. `far`: U is above U_set5. `repeat`: the side of the last automatic command, while T2 goes by it. `before`: the buttons
-// on the previous tick.
+// on the previous tick. `remembered`: the press that was made while the drive ran.
 pub struct Situation {
     pub resting: bool,
     pub automatic: bool,
@@ -36,6 +36,7 @@ pub struct Situation {
     pub repeat: Way,
     pub buttons: Buttons,
     pub before: Buttons,
+    pub remembered: Way,
 }
 
 // The command that begins on this tick, and the wait after it.

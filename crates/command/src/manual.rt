@@ -1,6 +1,6 @@
-// Rule 9 in manual mode.
+// Rule 9 in manual mode: a press, one that was made while the drive ran included.
 ghost use mathlib.Core.Path.{_≡_};
-ghost use Rattle.command.specs.Manual.{pressedOf, manualOf};
+ghost use Rattle.command.specs.Manual.{pressedOf, soughtOf, manualOf, rememberedOf};
 use crate::Buttons;
 use crate::Decided;
 use crate::Situation;
@@ -22,14 +22,23 @@ fn pressed(now: Buttons, before: Buttons) -> Way
     }
 }
 
+// The press that this tick goes by: its own, or else the remembered one.
+fn sought(x: Situation) -> Way
+    ensures { λ r. ⌜ r ≡ soughtOf x ⌝ }
+{
+    let now = x.buttons;
+    let before = x.before;
+    let press = pressed(now, before);
+    let earlier = x.remembered;
+    ways::newer(press, earlier)
+}
+
 // A press commands where neither manual nor its direction is blocked; the wait is 0.
 pub fn manual_mode(x: Situation) -> Decided
     ensures { λ r. ⌜ r ≡ manualOf x ⌝ }
 {
     let b = x.blocks;
-    let now = x.buttons;
-    let before = x.before;
-    let press = pressed(now, before);
+    let press = sought(x);
     let raises = ways::to_raise(press);
     let lowers = ways::to_lower(press);
     if (raises & !b.manual & !b.raise) | (lowers & !b.manual & !b.lower) {
@@ -39,5 +48,19 @@ pub fn manual_mode(x: Situation) -> Decided
         }
     } else {
         crate::idle()
+    }
+}
+
+// The press that is remembered after this tick. `rested`: the tick starts with the drive at rest, and so leaves none; `dropped`:
+// something drops it; `earlier`: the one remembered before.
+pub fn remember(rested: bool, dropped: bool, now: Buttons, before: Buttons, earlier: Way) -> Way
+    ensures { λ r. ⌜ r ≡ rememberedOf rested dropped now before earlier ⌝ }
+{
+    let latest = pressed(now, before);
+    let press = ways::newer(latest, earlier);
+    if rested | dropped {
+        Way::Neither
+    } else {
+        press
     }
 }

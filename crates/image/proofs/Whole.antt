@@ -34,6 +34,7 @@ state-back r =
       way-back (r .last),
       bit-back (r .buttons .raise),
       bit-back (r .buttons .lower),
+      way-back (r .remembered),
     )
 
 pub image-is : (r : Regulator) → isRecord (imageOf r) ≡ true
@@ -46,6 +47,7 @@ image-is r =
       wait-is (r .wait),
       way-is (r .repeat),
       way-is (r .last),
+      way-is (r .remembered),
       bit-is (r .buttons .raise),
       bit-is (r .buttons .lower),
     )
@@ -60,7 +62,8 @@ module _ (m : Image) (p : isRecord m ≡ true) where
   abbrev Parts : Type 0
   Parts =
       (areMarks (m .«organ_marks») ≡ true) × (isDrive (m .drive) ≡ true) × (isFault (m .fault) ≡ true) × (isWait (m .wait) ≡ true)
-      × (isWay (m .repeat) ≡ true) × (isWay (m .last) ≡ true) × (isBit (m .«raise_button») ≡ true) × (isBit (m .«lower_button») ≡ true)
+      × (isWay (m .repeat) ≡ true) × (isWay (m .last) ≡ true) × (isWay (m .remembered) ≡ true) × (isBit (m .«raise_button») ≡ true)
+      × (isBit (m .«lower_button») ≡ true)
 
   parts : Parts
   unfolding isRecord
@@ -71,20 +74,23 @@ module _ (m : Image) (p : isRecord m ≡ true) where
       let wait = isWait (m .wait) in
       let repeat = isWay (m .repeat) in
       let last = isWay (m .last) in
+      let remembered = isWay (m .remembered) in
       let raise = isBit (m .«raise_button») in
       let lower = isBit (m .«lower_button») in
-      let buttons : (raise && lower) ≡ true = and-right (marks && drive && fault && wait && (repeat && last)) (raise && lower) p in
-      let rest : (marks && drive && fault && wait && (repeat && last)) ≡ true = and-left _ (raise && lower) p in
-      let ways : (repeat && last) ≡ true = and-right (marks && drive && fault && wait) (repeat && last) rest in
-      let waits : (marks && drive && fault && wait) ≡ true = and-left _ (repeat && last) rest in
+      let buttons : (raise && lower) ≡ true = and-right (marks && drive && fault && wait && (repeat && last && remembered)) (raise && lower) p in
+      let rest : (marks && drive && fault && wait && (repeat && last && remembered)) ≡ true = and-left _ (raise && lower) p in
+      let ways : (repeat && last && remembered) ≡ true = and-right (marks && drive && fault && wait) (repeat && last && remembered) rest in
+      let sides : (repeat && last) ≡ true = and-left _ remembered ways in
+      let waits : (marks && drive && fault && wait) ≡ true = and-left _ (repeat && last && remembered) rest in
       let faults : (marks && drive && fault) ≡ true = and-left _ wait waits in
       let drives : (marks && drive) ≡ true = and-left _ fault faults in (
         and-left marks drive drives,
         and-right marks drive drives,
         and-right (marks && drive) fault faults,
         and-right (marks && drive && fault) wait waits,
-        and-left repeat last ways,
-        and-right repeat last ways,
+        and-left repeat last sides,
+        and-right repeat last sides,
+        and-right (repeat && last) remembered ways,
         and-left raise lower buttons,
         and-right raise lower buttons,
       )
@@ -100,15 +106,16 @@ module _ (m : Image) (p : isRecord m ≡ true) where
         wait-same _ (parts .3),
         way-same _ (parts .4),
         way-same _ (parts .5),
-        bit-same _ (parts .6),
+        way-same _ (parts .6),
         bit-same _ (parts .7),
+        bit-same _ (parts .8),
       )
 
 -- ---- over plain values, as the functions ask it
 
-module _ (r : Regulator) {n : OrganNumbers} {d : DriveImage} {f p q : ℕ} {w : WaitImage} where
+module _ (r : Regulator) {n : OrganNumbers} {d : DriveImage} {f p q u : ℕ} {w : WaitImage} where
   pub image-made : n ≡ organNumbers (r .organs) → d ≡ driveImage (r .drive) → f ≡ faultNumber (r .latch .fault) → w ≡ waitImage (r .wait)
-      → p ≡ wayNumber (r .repeat) → q ≡ wayNumber (r .last)
+      → p ≡ wayNumber (r .repeat) → q ≡ wayNumber (r .last) → u ≡ wayNumber (r .remembered)
       → _≡_ {A = Image}
       (record {
         settings = r .settings;
@@ -124,10 +131,11 @@ module _ (r : Regulator) {n : OrganNumbers} {d : DriveImage} {f p q : ℕ} {w : 
         operations = r .operations;
         «raise_button» = bitOf (r .buttons .raise);
         «lower_button» = bitOf (r .buttons .lower);
+        remembered = u;
       })
       (imageOf r)
   unfolding imageOf
-  image-made en ed ef ew ep eq = rw (en, ed, ef, ew, ep, eq)
+  image-made en ed ef ew ep eq eu = rw (en, ed, ef, ew, ep, eq, eu)
 
 pub imaged : (r : Regulator) {m : Image} → m ≡ imageOf r → (m ≡ imageOf r) × (recordOf m ≡ takenOf r)
 imaged r e = (e, rw e (back r))

@@ -25,13 +25,14 @@ imageOf r =
       operations = r .operations;
       «raise_button» = bitOf (r .buttons .raise);
       «lower_button» = bitOf (r .buttons .lower);
+      remembered = wayNumber (r .remembered);
     }
 
 -- each number that stands for a case is one of its numbers
 unfoldable pub isRecord : Image → Bool
 isRecord m =
     areMarks (m .«organ_marks») && isDrive (m .drive) && isFault (m .fault) && isWait (m .wait)
-    && (isWay (m .repeat) && isWay (m .last))
+    && (isWay (m .repeat) && isWay (m .last) && isWay (m .remembered))
     && (isBit (m .«raise_button») && isBit (m .«lower_button»))
 
 unfoldable pub stateOf : Image → Regulator
@@ -47,6 +48,7 @@ stateOf m =
       «counted_tap» = m .«counted_tap»;
       operations = m .operations;
       buttons = record { raise = eqb (m .«raise_button») 1; lower = eqb (m .«lower_button») 1 };
+      remembered = wayOf (m .remembered);
     }
 
 -- the record is there

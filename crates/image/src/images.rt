@@ -22,6 +22,7 @@ pub fn image_of(r: Regulator) -> Image
     let again = r.repeat;
     let before = r.last;
     let buttons = r.buttons;
+    let press = r.remembered;
     let numbers = crate::places::organ_numbers(organs);
     let marks = numbers.marks;
     let counts = numbers.counts;
@@ -30,6 +31,7 @@ pub fn image_of(r: Regulator) -> Image
     let wait = coding::wait_image(w);
     let repeat = coding::way_number(again);
     let last = coding::way_number(before);
+    let remembered = coding::way_number(press);
     Image {
         settings: settings,
         organ_marks: marks,
@@ -44,6 +46,7 @@ pub fn image_of(r: Regulator) -> Image
         operations: r.operations,
         raise_button: buttons.raise as u32,
         lower_button: buttons.lower as u32,
+        remembered: remembered,
     }
 }
 
@@ -57,7 +60,7 @@ fn is_record(m: Image) -> bool
     let marks = crate::places::are_marks(numbers);
     let drive = coding::is_drive(d);
     let wait = coding::is_wait(w);
-    let ways = (m.repeat <= 2) & (m.last <= 2);
+    let ways = (m.repeat <= 2) & (m.last <= 2) & (m.remembered <= 2);
     let buttons = (m.raise_button <= 1) & (m.lower_button <= 1);
     marks & drive & (m.fault <= 4) & wait & ways & buttons
 }
@@ -77,6 +80,7 @@ fn state_of(m: Image) -> Regulator
     let wait = coding::wait_of(w);
     let repeat = coding::way_of(m.repeat);
     let last = coding::way_of(m.last);
+    let remembered = coding::way_of(m.remembered);
     Regulator {
         settings: settings,
         organs: organs,
@@ -94,6 +98,7 @@ fn state_of(m: Image) -> Regulator
             raise: m.raise_button == 1,
             lower: m.lower_button == 1,
         },
+        remembered: remembered,
     }
 }
 

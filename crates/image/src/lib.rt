@@ -9,8 +9,8 @@ use coding::WaitImage;
 use record::Regulator;
 use slots::SLOTS;
 
-// `fault`: 0 none, 1 run-away, 2 not started, 3 long, 4 fast. `repeat`, `last`: 0 none, 1 raise, 2 lower. A mark and a button
-// are 0 or 1.
+// `fault`: 0 none, 1 run-away, 2 not started, 3 long, 4 fast. `repeat`, `last`, `remembered`: 0 none, 1 raise, 2 lower. A mark
+// and a button are 0 or 1.
 #[repr(C)]
 pub struct Image {
     pub settings: [u32; SLOTS],
@@ -26,6 +26,7 @@ pub struct Image {
     pub operations: u32,
     pub raise_button: u32,
     pub lower_button: u32,
+    pub remembered: u32,
 }
 
 // What an image gives: its record, or, where it is no record's image, nothing and a record of zeros.

@@ -20,7 +20,7 @@ use Rattle.organ.proofs.Within.{all-cleared-within}
 use Rattle.fault.specs.declared.Fault.the-variants.{NoFault}
 use Rattle.record.specs.declared.Regulator.{Regulator}
 use Rattle.record.specs.declared.starting.Started.{Started}
-use Rattle.record.specs.Limits.{ticksOf, delaysOf, motionWithin, countsWithin, withinOf}
+use Rattle.record.specs.Limits.{ticksOf, delaysOf, motionWithin, pressWithin, countsWithin, withinOf}
 use Rattle.record.proofs.OfKind.{rest-kind}
 use Rattle.record.specs.Starting.{freshOf, zerosOf, startedOf, repliedOf, startOf}
 
@@ -35,9 +35,13 @@ module _ (s : List ℕ) (e : passesOf s ≡ true) where
   unfolding motionWithin freshOf ticksOf
   fresh-motion = rw (rest-kind s NoFault refl, le-leb 0 (slot s t8) (omega arith))
 
+  fresh-press : pressWithin (freshOf s .latch .fault) (freshOf s .remembered) ≡ true
+  unfolding pressWithin freshOf
+  fresh-press = refl
+
   pub fresh-within : withinOf (freshOf s) ≡ true
   unfolding withinOf freshOf
-  fresh-within = rw (e, fresh-motion, fresh-counts)
+  fresh-within = rw (e, fresh-motion, fresh-press, fresh-counts)
 
 -- the answer by its number
 taken-number : (a : Answer) → isTaken a ≡ eqb (numberOf a) 0

@@ -1,4 +1,4 @@
--- The limits of a record (01, 'Limits of a record'; 02, ticket 2). Definitions only.
+-- The limits of a record (01, 'Limits of a record'; 02, tickets 2 and 6). Definitions only.
 use Prim.Native.Nat.{ℕ, _+_}
 use mathlib.Core.Bool.{Bool, not, _&&_, _||_}
 use mathlib.Core.List.{List, [], _∷_}
@@ -6,6 +6,8 @@ use lib.Dec.{leb, eqb}
 use Rattle.common.specs.Choice.{choose}
 use Rattle.slots.specs.Slots.{slot, t4, t5, t8, organDelays, nL, nR, isContinuous}
 use Rattle.sheet.specs.Sheet.{passesOf}
+use Rattle.ways.specs.declared.Way.{Way}
+use Rattle.ways.specs.Ways.{raises, lowers}
 use Rattle.organ.specs.declared.Organ.{Organ}
 use Rattle.organ.specs.Limits.{organsWithin}
 use Rattle.drive.specs.declared.Drive.{Drive}
@@ -45,6 +47,10 @@ motionWithin s d w l =
     && (not (isFault (l .fault)) || restsOf d)
     && latchWithin l (slot s t8)
 
+-- 02, ticket 6: "an accepted record remembers no press beside a fault"
+unfoldable pub pressWithin : Fault → Way → Bool
+pressWithin f press = not (isFault f && (raises press || lowers press))
+
 -- "organ count at most its delay, 0 if not marked; counted tap N_L–N_R; operations at most 999,999"
 unfoldable pub countsWithin : List ℕ → List Organ → ℕ → ℕ → Bool
 countsWithin s organs tap operations =
@@ -55,4 +61,5 @@ unfoldable pub withinOf : Regulator → Bool
 withinOf r =
     passesOf (r .settings)
     && motionWithin (r .settings) (r .drive) (r .wait) (r .latch)
+    && pressWithin (r .latch .fault) (r .remembered)
     && countsWithin (r .settings) (r .organs) (r .«counted_tap») (r .operations)

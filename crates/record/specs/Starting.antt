@@ -30,6 +30,7 @@ idleOf s tap operations pressed =
       «counted_tap» = tap;
       operations = operations;
       buttons = record { raise = pressed; lower = pressed };
+      remembered = Neither;
     }
 
 -- "fresh: at rest, no organ marked, nothing latched or waiting, no last direction or automatic command, counted tap N_pos, operations

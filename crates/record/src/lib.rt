@@ -11,7 +11,7 @@ use slots::SLOTS;
 use ways::Way;
 
 // `repeat` is the side of the last automatic command, while T2 goes by it; `last` is the last direction; `buttons` are those
-// that were pressed on the previous tick.
+// that were pressed on the previous tick; `remembered` is the press that was made while the drive ran.
 pub struct Regulator {
     pub settings: [u32; SLOTS],
     pub organs: [Organ; 7],
@@ -23,4 +23,5 @@ pub struct Regulator {
     pub counted_tap: u32,
     pub operations: u32,
     pub buttons: Buttons,
+    pub remembered: Way,
 }

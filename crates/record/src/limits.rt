@@ -1,6 +1,6 @@
 // The limits of a record. A record outside them is refused with 4.
 ghost use mathlib.Core.Path.{_≡_};
-ghost use Rattle.record.specs.Limits.{ticksOf, delaysOf, kindWithin, motionWithin, countsWithin, withinOf};
+ghost use Rattle.record.specs.Limits.{ticksOf, delaysOf, kindWithin, motionWithin, pressWithin, countsWithin, withinOf};
 use crate::Regulator;
 use command::Wait;
 use drive::Drive;
@@ -15,6 +15,7 @@ use slots::SLOTS;
 use slots::T4;
 use slots::T5;
 use slots::T8;
+use ways::Way;
 
 fn wait_ticks(w: Wait) -> u32
     ensures { λ r. ⌜ r ≡ ticksOf w ⌝ }
@@ -69,6 +70,16 @@ fn motion_within(s: &[u32; SLOTS], d: Drive, w: Wait, l: Latch) -> bool
     (ticks <= 35999) & (rests | (ticks == 0)) & moves & (!fault | rests) & latched
 }
 
+// No press is remembered beside a fault.
+fn press_within(f: Fault, press: Way) -> bool
+    ensures { λ r. ⌜ r ≡ pressWithin f press ⌝ }
+{
+    let fault = fault::is_fault(f);
+    let raises = ways::to_raise(press);
+    let lowers = ways::to_lower(press);
+    !(fault & (raises | lowers))
+}
+
 // The organs, the counted tap and the operations.
 fn counts_within(s: &[u32; SLOTS], organs: [Organ; 7], tap: u32, operations: u32) -> bool
     ensures { λ r. ⌜ r ≡ countsWithin (now (s .entry)) organs tap operations ⌝ }
@@ -86,9 +97,12 @@ pub fn within(r: Regulator) -> bool
     let drive = r.drive;
     let wait = r.wait;
     let latch = r.latch;
+    let fault = latch.fault;
+    let remembered = r.remembered;
     let organs = r.organs;
     let passes = sheet::passes(&s);
     let motion = motion_within(&s, drive, wait, latch);
+    let press = press_within(fault, remembered);
     let counts = counts_within(&s, organs, r.counted_tap, r.operations);
-    passes & motion & counts
+    passes & motion & press & counts
 }

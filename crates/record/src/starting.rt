@@ -53,6 +53,7 @@ pub fn fresh(settings: [u32; SLOTS]) -> Regulator
             raise: true,
             lower: true,
         },
+        remembered: Way::Neither,
     }
 }
 
@@ -83,6 +84,7 @@ pub fn zeros() -> Regulator
             raise: false,
             lower: false,
         },
+        remembered: Way::Neither,
     }
 }
 

@@ -12,12 +12,13 @@ use Rattle.common.specs.Choice.{choose}
 use Rattle.common.proofs.Cases.{chosen}
 use Rattle.slots.specs.Slots.{slot, t4, t5, t8, isContinuous}
 use Rattle.sheet.specs.Sheet.{passesOf}
-use Rattle.common.proofs.Joined.{split, and-five, or-true}
+use Rattle.common.proofs.Joined.{split, and-five, and-false, or-true}
 use Rattle.sheet.proofs.Laws.{t1-range, t2-range, t3-range, t4-range, t5-range}
 use Rattle.organ.specs.declared.OrganInput.{OrganInput}
 use Rattle.ways.specs.declared.Direction.{Direction}
 use Rattle.drive.specs.declared.Drive.{Drive}
 use Rattle.drive.specs.declared.Drive.the-variants.{Asked}
+use Rattle.fault.specs.declared.Fault.{Fault}
 use Rattle.fault.specs.declared.Latch.{Latch}
 use Rattle.ways.specs.declared.Way.{Way}
 use Rattle.ways.specs.declared.Way.the-variants.{Neither, To}
@@ -33,13 +34,15 @@ use Rattle.command.specs.declared.Wait.{Wait}
 use Rattle.command.specs.declared.Wait.the-variants.{Idle, For}
 use Rattle.command.specs.Automatic.{delayOf}
 use Rattle.command.proofs.Sound.{Sound}
-use Rattle.record.specs.Limits.{ticksOf, delaysOf, kindWithin, motionWithin}
+use Rattle.record.specs.Limits.{ticksOf, delaysOf, kindWithin, motionWithin, pressWithin}
 use Rattle.record.proofs.OfKind.{held-kind, kind-long, contact-kind}
 use Rattle.acting.specs.Accounting.{oneMoreOf, operationsOf}
-use Rattle.acting.specs.Commanding.{askOf}
+use Rattle.acting.specs.Commanding.{askOf, keptPressOf}
 use Rattle.acting.specs.declared.judging.Finding.{Finding}
 use Rattle.acting.specs.Supervising.{clearedOf, followedOf}
+use Rattle.acting.specs.declared.commanding.Memory.{Memory}
 use Rattle.acting.proofs.EachKind.{faulty-stays, fault-stops, held-kept, contact-kept}
+use Rattle.acting.proofs.Presses.{fault-drops}
 use Rattle.input.specs.declared.Contacts.{Contacts}
 use Rattle.sensing.specs.Protecting.{organInputOf, organInputsOf}
 use Rattle.input.specs.declared.Readings.{Readings}
@@ -152,6 +155,13 @@ module _ (s : List ℕ) (c : Contacts) (x : Finding) (d : Drive) (l : Latch) (la
       held-kind s (after .drive) _ e (h .0) (later-long _ _ (reset-long l (c .reset) (kind-long s d (l .fault) e m)) (h .1)))
       (λ e. contact-kind s (after .drive) _ e (contact-kept s c x d (clearedOf c l) last four e))
       (split (isContinuous s))
+
+-- ---- 02, ticket 6: a press that is remembered is beside no fault
+
+pub kept-press : (c : Contacts) (f : Fault) (m : Memory) → pressWithin f (keptPressOf c f m) ≡ true
+unfolding pressWithin
+kept-press c f m =
+    ⊎-elim (λ e. rw (fault-drops c f m e) (ap not (and-false (isFault f)))) (λ e. rw e refl) (split (isFault f))
 
 -- ---- rules 5 and 7: the counts
 

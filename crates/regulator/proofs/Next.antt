@@ -26,7 +26,7 @@ use Rattle.blocks.proofs.Laws.{fault-blocks-automatic, fault-blocks-manual}
 use Rattle.command.specs.declared.Decided.{Decided}
 use Rattle.command.specs.declared.Situation.{Situation}
 use Rattle.command.proofs.Sound.{Sound, decided-sound, modeBlocked}
-use Rattle.record.specs.Limits.{kindWithin, motionWithin, countsWithin, withinOf, delaysOf}
+use Rattle.record.specs.Limits.{kindWithin, motionWithin, pressWithin, countsWithin, withinOf, delaysOf}
 use Rattle.record.specs.declared.Regulator.{Regulator}
 use Rattle.record.proofs.Starts.{fresh-within}
 use Rattle.acting.specs.Accounting.{accountedOf}
@@ -37,21 +37,24 @@ use Rattle.acting.specs.Supervising.{supervisedOf}
 use Rattle.acting.specs.declared.supervising.Supervised.{Supervised}
 use Rattle.regulator.specs.declared.Sensed.{Sensed}
 use Rattle.regulator.specs.declared.Ticked.{Ticked}
-use Rattle.regulator.specs.Ticks.{sensedOf, protectedIn, findingOf, supervisedIn, blockedIn, memoryOf, regulatedIn, accountedIn, actedOf, nextOf, endOf, ranOf, isOut, outOf, refusedOf, tickOf}
-use Rattle.regulator.proofs.Lasting.{Parts, motion-parts, motion-kept, fault-rests, kind-after, delays-are, operations-most}
+use Rattle.regulator.specs.Ticks.{sensedOf, protectedIn, findingOf, supervisedIn, blockedIn, memoryOf, regulatedIn, rememberedIn, accountedIn, actedOf, nextOf, endOf, ranOf, isOut, outOf, refusedOf, tickOf}
+use Rattle.regulator.proofs.Lasting.{Parts, motion-parts, motion-kept, fault-rests, kind-after, kept-press, delays-are, operations-most}
 
 module _ (r : Regulator) (h : withinOf r ≡ true) where
   pub pass : passesOf (r .settings) ≡ true
   unfolding withinOf
-  pass = and-left _ _ (and-left _ _ h)
+  pass = and-left _ _ (and-left _ _ (and-left _ _ h))
 
   pub motion : Parts (r .settings) (r .drive) (r .wait) (r .latch)
   unfolding withinOf
-  motion = motion-parts _ _ _ _ (and-right (passesOf (r .settings)) _ (and-left _ _ h))
+  motion = motion-parts _ _ _ _ (and-right (passesOf (r .settings)) _ (and-left _ _ (and-left _ _ h)))
 
   counts : countsWithin (r .settings) (r .organs) (r .«counted_tap») (r .operations) ≡ true
   unfolding withinOf
-  counts = and-right (passesOf (r .settings) && motionWithin (r .settings) (r .drive) (r .wait) (r .latch)) _ h
+  counts =
+      and-right
+      (passesOf (r .settings) && motionWithin (r .settings) (r .drive) (r .wait) (r .latch) && pressWithin (r .latch .fault) (r .remembered))
+      _ h
 
   module _ (c : Contacts) (x : Sensed) where
     abbrev v : Supervised
@@ -108,9 +111,13 @@ module _ (r : Regulator) (h : withinOf r ≡ true) where
         let o = operations-most (r .settings) (r .operations) (v .operation) (leb-true _ _ (p .3)) in
         rw (← delays-are (r .settings) (x .observed .readings) (x .observed .section), all-step-within, le-leb _ _ (b .above), le-leb _ _ (b .below), le-leb _ _ o)
 
+    next-press : pressWithin (v .latch .fault) (rememberedIn r c v) ≡ true
+    unfolding rememberedIn
+    next-press = kept-press c (v .latch .fault) (memoryOf r)
+
   pub next-within : (i : Input) (c : Contacts) → withinOf (ranOf r i c .next) ≡ true
   unfolding withinOf ranOf endOf nextOf sensedOf actedOf regulatedIn regulatedOf
-  next-within i c = rw (pass, next-motion c (sensedOf r i c), next-counts c (sensedOf r i c))
+  next-within i c = rw (pass, next-motion c (sensedOf r i c), next-press c (sensedOf r i c), next-counts c (sensedOf r i c))
 
 -- the tick's next record is within its limits exactly if the record was
 pub tick-lasting : (r : Regulator) (i : Input) → withinOf (tickOf r i .next) ≡ withinOf r

@@ -11,6 +11,7 @@ use Rattle.input.specs.declared.Input.{Input}
 use Rattle.input.specs.Brought.{contactsOf}
 use Rattle.organ.specs.declared.Organs.{Organs}
 use Rattle.blocks.specs.declared.Blocks.{Blocks}
+use Rattle.ways.specs.declared.Way.{Way}
 use Rattle.record.specs.declared.Regulator.{Regulator}
 use Rattle.record.specs.Limits.{withinOf}
 use Rattle.record.specs.Starting.{freshOf}
@@ -27,7 +28,7 @@ use Rattle.sensing.specs.Protecting.{protectedOf}
 use Rattle.sensing.specs.Assessing.{assessedOf}
 use Rattle.acting.specs.Supervising.{supervisedOf}
 use Rattle.acting.specs.Judging.{blockedOf}
-use Rattle.acting.specs.Commanding.{regulatedOf}
+use Rattle.acting.specs.Commanding.{buttonsOf, regulatedOf, keptPressOf}
 use Rattle.acting.specs.Accounting.{accountedOf}
 use Rattle.showing.specs.Showing.{fieldCount, outputsOf}
 use Rattle.regulator.specs.declared.Acted.{Acted}
@@ -72,11 +73,15 @@ blockedIn r c x v = blockedOf (r .settings) c (v .latch .fault) (findingOf x)
 
 -- what rule 9 remembers
 abbrev pub memoryOf : Regulator → Memory
-memoryOf r = record { drive = r .drive; wait = r .wait; repeat = r .repeat; buttons = r .buttons }
+memoryOf r = record { drive = r .drive; wait = r .wait; repeat = r .repeat; buttons = r .buttons; remembered = r .remembered }
 
 -- rule 9: the command and its delay
 unfoldable pub regulatedIn : Regulator → Contacts → Sensed → Supervised → Regulated
 regulatedIn r c x v = regulatedOf (r .settings) c (x .assessed) (blockedIn r c x v) (memoryOf r) (v .drive)
+
+-- 02, ticket 6: the press that is remembered after the tick
+unfoldable pub rememberedIn : Regulator → Contacts → Supervised → Way
+rememberedIn r c v = keptPressOf c (v .latch .fault) (memoryOf r)
 
 -- rule 7, at tick end: what an ended move leaves
 unfoldable pub accountedIn : Regulator → Supervised → Accounted
@@ -121,7 +126,8 @@ nextOf r c x y =
       last = y .accounted .last;
       «counted_tap» = y .accounted .tap;
       operations = y .accounted .operations;
-      buttons = record { raise = c .«raise_button»; lower = c .«lower_button» };
+      buttons = buttonsOf c;
+      remembered = rememberedIn r c (y .supervised);
     }
 
 unfoldable pub endOf : Regulator → Contacts → Sensed → Acted → Ticked

@@ -11,7 +11,6 @@ use acting::commanding::Regulated;
 use acting::judging::Finding;
 use acting::supervising::Supervised;
 use blocks::Blocks;
-use command::Buttons;
 use input::Contacts;
 use input::Input;
 use organ::Organs;
@@ -97,11 +96,13 @@ fn memory_of(r: Regulator) -> Memory
     let wait = r.wait;
     let repeat = r.repeat;
     let buttons = r.buttons;
+    let remembered = r.remembered;
     Memory {
         drive: drive,
         wait: wait,
         repeat: repeat,
         buttons: buttons,
+        remembered: remembered,
     }
 }
 
@@ -179,12 +180,16 @@ fn next_of(r: Regulator, c: Contacts, x: Sensed, y: Acted) -> Regulator
     let organs = stepped.organs;
     let supervised = y.supervised;
     let latch = supervised.latch;
+    let fault = latch.fault;
     let regulated = y.regulated;
     let drive = regulated.drive;
     let wait = regulated.wait;
     let repeat = regulated.repeat;
     let accounted = y.accounted;
     let last = accounted.last;
+    let buttons = acting::commanding::buttons_of(c);
+    let m = memory_of(r);
+    let remembered = acting::commanding::remember(c, fault, m);
     Regulator {
         settings: settings,
         organs: organs,
@@ -195,10 +200,8 @@ fn next_of(r: Regulator, c: Contacts, x: Sensed, y: Acted) -> Regulator
         last: last,
         counted_tap: accounted.tap,
         operations: accounted.operations,
-        buttons: Buttons {
-            raise: c.raise_button,
-            lower: c.lower_button,
-        },
+        buttons: buttons,
+        remembered: remembered,
     }
 }
 

@@ -1,10 +1,20 @@
-use Rattle.regulator.specs.Ticks.{nextOf}
+use Rattle.regulator.specs.Ticks.{nextOf, rememberedIn}
+use borrow.Author.Needs.{needs}
 use Rattle.regulator.proofs.next_of.Statement.{statement}
 use Rattle.regulator.proofs.next_of.Tie as tie
 
+buttons-of-requires : tie.Need-buttons-of-requires
+buttons-of-requires c κs = search needs
+
+memory-of-requires : tie.Need-memory-of-requires
+memory-of-requires c κs = search needs
+
+remember-requires : tie.Need-remember-requires
+remember-requires c κs = search needs
+
 returns : tie.Need-returns
-unfolding nextOf
+unfolding nextOf rememberedIn
 returns c = cc
 
 pub next-of-spec : {M : Type 1} → statement M
-next-of-spec = tie.close (tie.spec returns)
+next-of-spec = tie.close (tie.spec buttons-of-requires memory-of-requires remember-requires returns)

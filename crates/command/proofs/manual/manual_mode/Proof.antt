@@ -3,8 +3,8 @@ use borrow.Author.Needs.{needs}
 use Rattle.command.proofs.manual.manual_mode.Statement.{statement}
 use Rattle.command.proofs.manual.manual_mode.Tie as tie
 
-pressed-requires : tie.Need-pressed-requires
-pressed-requires c κs = search needs
+sought-requires : tie.Need-sought-requires
+sought-requires c κs = search needs
 
 to-raise-requires : tie.Need-to-raise-requires
 to-raise-requires c κs = search needs
@@ -24,4 +24,4 @@ returns-2 c = search made
 pub manual-mode-spec : {M : Type 1} → statement M
 manual-mode-spec =
     tie.close
-    (tie.spec pressed-requires to-raise-requires to-lower-requires idle-requires returns returns-2)
+    (tie.spec sought-requires to-raise-requires to-lower-requires idle-requires returns returns-2)

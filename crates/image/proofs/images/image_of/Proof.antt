@@ -23,11 +23,14 @@ way-number-requires c κs = search needs
 way-number-requires-2 : tie.Need-way-number-requires-2
 way-number-requires-2 c κs = search needs
 
-cast-t19 : tie.Need-cast-t19
-cast-t19 c = search needs
+way-number-requires-3 : tie.Need-way-number-requires-3
+way-number-requires-3 c κs = search needs
 
-cast-t20 : tie.Need-cast-t20
-cast-t20 c = search needs
+cast-t21 : tie.Need-cast-t21
+cast-t21 c = search needs
+
+cast-t22 : tie.Need-cast-t22
+cast-t22 c = search needs
 
 returns : tie.Need-returns
 returns c = imaged _ (search image-made)
@@ -42,6 +45,7 @@ image-of-spec =
     wait-image-requires
     way-number-requires
     way-number-requires-2
-    cast-t19
-    cast-t20
+    way-number-requires-3
+    cast-t21
+    cast-t22
     returns)

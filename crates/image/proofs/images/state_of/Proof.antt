@@ -22,6 +22,9 @@ way-of-requires c κs = search needs
 way-of-requires-2 : tie.Need-way-of-requires-2
 way-of-requires-2 c κs = search needs
 
+way-of-requires-3 : tie.Need-way-of-requires-3
+way-of-requires-3 c κs = search needs
+
 returns : tie.Need-returns
 unfolding stateOf
 returns c = cc
@@ -36,4 +39,5 @@ state-of-spec =
     wait-of-requires
     way-of-requires
     way-of-requires-2
+    way-of-requires-3
     returns)

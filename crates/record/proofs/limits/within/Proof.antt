@@ -9,6 +9,9 @@ passes-requires c κs = search needs
 motion-within-requires : tie.Need-motion-within-requires
 motion-within-requires c κs = search needs
 
+press-within-requires : tie.Need-press-within-requires
+press-within-requires c κs = search needs
+
 counts-within-requires : tie.Need-counts-within-requires
 counts-within-requires c κs = search needs
 
@@ -18,4 +21,4 @@ returns c = cc
 
 pub within-spec : {M : Type 1} → statement M
 within-spec =
-    tie.close (tie.spec passes-requires motion-within-requires counts-within-requires returns)
+    tie.close (tie.spec passes-requires motion-within-requires press-within-requires counts-within-requires returns)

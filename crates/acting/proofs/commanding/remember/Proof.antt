@@ -1,0 +1,25 @@
+use Rattle.acting.specs.Commanding.{keptPressOf}
+use borrow.Author.Needs.{needs}
+use Rattle.acting.proofs.commanding.remember.Statement.{statement}
+use Rattle.acting.proofs.commanding.remember.Tie as tie
+
+rests-requires : tie.Need-rests-requires
+rests-requires c κs = search needs
+
+drops-requires : tie.Need-drops-requires
+drops-requires c κs = search needs
+
+buttons-of-requires : tie.Need-buttons-of-requires
+buttons-of-requires c κs = search needs
+
+remember-requires : tie.Need-remember-requires
+remember-requires c κs = search needs
+
+returns : tie.Need-returns
+unfolding keptPressOf
+returns c = cc
+
+pub remember-spec : {M : Type 1} → statement M
+remember-spec =
+    tie.close
+    (tie.spec rests-requires drops-requires buttons-of-requires remember-requires returns)
