@@ -1,2 +1,3 @@
 pub mod Made
 pub mod Sound
+pub mod Presses

@@ -2,7 +2,7 @@
 -- Assumes nothing.
 use mathlib.Core.Path.{_≡_, refl, subst}
 use mathlib.Core.Bool.{true}
-use mathlib.Core.List.{List, [], _∷_, _++_}
+use mathlib.Core.List.{List, [], _∷_, _++_, map}
 use Prim.Native.Nat.{ℕ}
 use lib.Ieee.{ofBits}
 use lib.ListN.{replicate}
@@ -116,6 +116,30 @@ waiting = freshBut (For Raise 10) 0
 abbrev outside : Regulator
 outside = freshBut Idle 1000000
 
+-- in manual mode at 100 V: the contacts of each tick, and its outputs 0, 1 and 24: raise, lower, asked or moving
+abbrev Press : Type 0
+Press = ℕ × (ℕ × ℕ × ℕ)
+
+abbrev pressTicks : List Press → List Input
+pressTicks rows = map (λ p. brought 0x42C8_0000 (p .0)) rows
+
+abbrev commandsOf : Regulator → List Input → List (ℕ × ℕ × ℕ)
+commandsOf r is = map (λ t. (output 0 t, output 1 t, output 24 t)) (ticksFrom (restsOf (r .drive)) r is)
+
+-- 02, ticket 6: a lower pressed in a raise's move begins on the first tick that starts at rest, and on no other; a raise pressed as its
+-- move ends is blocked on that tick, and so dropped
+abbrev pressRows : List Press
+pressRows =
+    (0x000001, (0, 0, 0)) ∷ (0x080001, (1, 0, 1)) ∷ (0x000003, (0, 0, 1)) ∷ (0x100003, (0, 0, 1)) ∷ (0x000003, (0, 0, 1)) ∷ (0x000001, (0, 0, 0))
+    ∷ (0x000001, (0, 1, 1)) ∷ (0x000003, (0, 0, 1)) ∷ (0x000003, (0, 0, 1)) ∷ (0x000003, (0, 0, 1)) ∷ (0x080001, (0, 0, 0))
+    ∷ (0x000401, (0, 0, 0)) ∷ (0x000001, (0, 0, 0)) ∷ []
+
+-- the same without a switching contact: the command stays for T4 ticks, and both buttons are held as the lower is carried out
+abbrev heldPressRows : List Press
+heldPressRows =
+    (0x000001, (0, 0, 0)) ∷ (0x080001, (1, 0, 1)) ∷ (0x000001, (1, 0, 1)) ∷ (0x100001, (1, 0, 1))
+    ∷ (replicate 21 (0x180001, (1, 0, 1)) ++ ((0x180001, (0, 0, 0)) ∷ (0x180001, (0, 1, 1)) ∷ (0x180001, (0, 1, 1)) ∷ []))
+
 pub record Given : Type 0 where
   pub early : ticksFrom (restsOf (fresh .drive)) fresh (served 4 5) ≡ servedList 4 5
   pub bound : ticksFrom (restsOf (fresh .drive)) fresh (served 21 24) ≡ servedList 21 24
@@ -125,6 +149,8 @@ pub record Given : Type 0 where
   pub long : ticksFrom (restsOf (freshHeld .drive)) freshHeld longHeld ≡ heldList
   pub band : ticksFrom (restsOf (freshHeld .drive)) freshHeld (replicate 48 lowClosed ++ (bandClosed ∷ [])) ≡ heldBandList
   pub heldHigh : ticksFrom (restsOf (freshHeld .drive)) freshHeld (replicate 21 highClosed) ≡ heldHighList
+  pub pressed : commandsOf fresh (pressTicks pressRows) ≡ map (λ p. p .1) pressRows
+  pub heldPressed : commandsOf freshHeld (pressTicks heldPressRows) ≡ map (λ p. p .1) heldPressRows
   pub onFresh : opening fresh ≡ freshOpening
   pub onWaiting : opening waiting ≡ waitingOpening
   pub onHeld : opening freshHeld ≡ heldOpening
@@ -142,6 +168,8 @@ given =
       long = refl;
       band = refl;
       heldHigh = refl;
+      pressed = refl;
+      heldPressed = refl;
       onFresh = refl;
       onWaiting = refl;
       onHeld = refl;
