@@ -1,8 +1,9 @@
-//! Rule 9: the wait, and when a command begins. Rule 10: while it is on.
+//! Rule 9: the wait, and when a command begins. Rule 10: while it is on. Ticket
+//! 6: the press that is remembered until the drive is at rest.
 
 use crate::blocks::Blocks;
 use crate::input::{bit, Contacts};
-use crate::record::{Direction, Drive, Record, Side, Wait};
+use crate::record::{Direction, Drive, Fault, Record, Side, Wait};
 use crate::sheet::{is_continuous, slot, Settings};
 use crate::voltage::Voltage;
 
@@ -74,17 +75,38 @@ fn delay(settings: &Settings, repeat: Option<Side>, voltage: &Voltage, side: Sid
     }
 }
 
-/// Exactly one button, not pressed on the previous tick, and nothing blocked.
+/// A press that nothing blocks; without one on this tick the remembered press,
+/// "carried out as if pressed alone then". "A real press on that tick wins", and
+/// one that is blocked is a press all the same.
 fn manual(record: &Record, contacts: Contacts, blocks: &Blocks) -> Option<Direction> {
+    let pressed = press(record, contacts).or(record.remembered);
+    pressed.filter(|&direction| !blocks.manual && !blocks.way(direction))
+}
+
+/// "One press, as rule 9 judges it, blocks aside": exactly one button pressed,
+/// and that one not on the previous tick.
+fn press(record: &Record, contacts: Contacts) -> Option<Direction> {
     let raise = contacts.on(bit::RAISE_BUTTON);
     let lower = contacts.on(bit::LOWER_BUTTON);
-    let (direction, before) = match (raise, lower) {
-        (true, false) => (Direction::Raise, record.raise_button),
-        (false, true) => (Direction::Lower, record.lower_button),
-        _ => return None,
-    };
-    let blocked = blocks.manual || blocks.way(direction);
-    (!before && !blocked).then_some(direction)
+    match (raise, lower) {
+        (true, false) if !record.raise_button => Some(Direction::Raise),
+        (false, true) if !record.lower_button => Some(Direction::Lower),
+        _ => None,
+    }
+}
+
+/// The press that the tick leaves in the record: one "made on a tick that starts
+/// with a command or move unfinished", "the latest replacing the earlier one". A
+/// tick that starts at rest leaves none. "Fault, automatic, local drive and out
+/// drop it", also if it is made on their tick; out is rule 1's. `fault` is what
+/// rule 7 leaves.
+pub fn remembered_after(record: &Record, contacts: Contacts, fault: Fault) -> Option<Direction> {
+    let unfinished = record.drive != Drive::Rest;
+    let dropped = fault != Fault::None || contacts.any(&[bit::AUTOMATIC, bit::LOCAL_DRIVE]);
+    match unfinished && !dropped {
+        true => press(record, contacts).or(record.remembered),
+        false => None,
+    }
 }
 
 /// Rule 10: a command is on while asked (without the contact: while held), and

@@ -133,6 +133,9 @@ pub struct Record {
     /// The buttons as they were on the previous tick.
     pub raise_button: bool,
     pub lower_button: bool,
+    /// Ticket 6: the press made while a command or move was unfinished. At rest
+    /// the tick to come is the first one there, and carries it out.
+    pub remembered: Option<Direction>,
 }
 
 impl Record {
@@ -168,11 +171,12 @@ impl Record {
             operations: 0,
             raise_button: false,
             lower_button: false,
+            remembered: None,
         }
     }
 }
 
-/// The paper's "Limits of a record", as ticket 2 changes them.
+/// The paper's "Limits of a record", as tickets 2 and 6 change them.
 pub fn within_limits(record: &Record) -> bool {
     let settings = &record.settings;
     check_settings(settings).is_ok()
@@ -205,12 +209,14 @@ fn drive_within(record: &Record) -> bool {
 }
 
 /// A fault only at rest, its age at most T8; no age without a fault. Without
-/// the contact "no fault but 'long'".
+/// the contact "no fault but 'long'". "An accepted record remembers no press
+/// beside a fault".
 fn fault_within(record: &Record) -> bool {
     let settings = &record.settings;
     match record.fault {
         Fault::None => record.fault_age == 0,
         fault if is_continuous(settings) && fault != Fault::Long => false,
+        _ if record.remembered.is_some() => false,
         _ => record.drive == Drive::Rest && record.fault_age <= settings[slot::T8],
     }
 }

@@ -109,6 +109,7 @@ fn advance(record: &Record, input: &Input, findings: &Findings) -> Record {
         operations: operations_after(record, operation),
         raise_button: input.contacts.on(bit::RAISE_BUTTON),
         lower_button: input.contacts.on(bit::LOWER_BUTTON),
+        remembered: command::remembered_after(record, input.contacts, fault),
     }
 }
 

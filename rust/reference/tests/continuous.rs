@@ -216,7 +216,12 @@ fn no_command_on_the_tick_one_ends() {
     let mut record = begun(&[], &low(&[]));
     let outputs = step(&mut record, &with(&[bit::LOWER_BUTTON]));
     assert_ended(&record, &outputs);
-    // The button is remembered: held on, it commands nothing.
+    // The press is remembered, since that tick is in manual mode (ticket 6).
+    assert_eq!(step(&mut record, &with(&[bit::LOWER_BUTTON]))[1], 1);
+    // In automatic it is not, and held on the button commands nothing.
+    let mut record = begun(&[], &low(&[]));
+    let outputs = step(&mut record, &auto(100_000, &[bit::LOWER_BUTTON]));
+    assert_ended(&record, &outputs);
     assert_eq!(step(&mut record, &with(&[bit::LOWER_BUTTON]))[24], 0);
     step(&mut record, &calm());
     assert_eq!(step(&mut record, &with(&[bit::LOWER_BUTTON]))[1], 1);

@@ -111,7 +111,8 @@ fn local_drive_and_out_end_a_manual_command() {
 
 #[test]
 fn buttons_do_nothing_to_a_held_command() {
-    for buttons in [&[bit::RAISE_BUTTON][..], &[bit::LOWER_BUTTON], &[bit::RAISE_BUTTON, bit::LOWER_BUTTON]] {
+    // The raise button is the one held on; of a new press see ticket 6's tests.
+    for buttons in [&[bit::RAISE_BUTTON][..], &[bit::RAISE_BUTTON, bit::LOWER_BUTTON]] {
         let mut record = raised(&[]);
         for _ in 1..T4 {
             assert_eq!(step(&mut record, &with(buttons))[0..=1], [1, 0]);

@@ -1,9 +1,9 @@
-//! Rules 9 and 7 told once more, from inputs and outputs alone, for both kinds
-//! of drive: a watcher that never looks into the record must agree on every
-//! tick.
+//! Rules 9 and 7 and ticket 6 told once more, from inputs and outputs alone, for
+//! both kinds of drive: a watcher that never looks into the record must agree on
+//! every tick.
 
 use reference::input::{bit, Input};
-use reference::record::Side;
+use reference::record::{Direction, Side};
 use reference::scene::Scene;
 use reference::sheet::{is_continuous, slot, Settings};
 use reference::tick::OUTPUTS;
@@ -21,10 +21,14 @@ struct Watcher {
     /// Side of the last automatic command, if nothing has ended T2 since.
     repeat: Option<Side>,
     buttons: (bool, bool),
+    /// The last press since output 24 came on that nothing has dropped.
+    pressed: Option<Direction>,
     /// Ticks in a row with the same supply-tripping fault.
     tripping: u32,
     operations: u32,
     commands: u32,
+    /// Those that no press on their tick began.
+    carried_out: u32,
 }
 
 impl Watcher {
@@ -36,9 +40,11 @@ impl Watcher {
             row_side: None,
             repeat: None,
             buttons: (true, true),
+            pressed: None,
             tripping: 0,
             operations: settings[slot::N_START],
             commands: 0,
+            carried_out: 0,
         }
     }
 
@@ -46,9 +52,8 @@ impl Watcher {
         let on = |bit| input.contacts.on(bit);
         if on(bit::OUT) || self.settings[slot::IN_SERVICE] == 0 {
             assert_eq!(*outputs, [0; OUTPUTS]);
-            let commands = self.commands;
-            *self = Watcher::new(self.settings);
-            self.commands = commands;
+            let (commands, carried_out) = (self.commands, self.carried_out);
+            *self = Watcher { commands, carried_out, ..Watcher::new(self.settings) };
             return;
         }
         let began = self.began(outputs);
@@ -58,6 +63,7 @@ impl Watcher {
         };
         assert_eq!(began, expected);
         self.commands += u32::from(began != (0, 0));
+        self.remember(input, outputs);
         self.supply_trip(input, outputs);
         self.wear(input, outputs);
         self.buttons = (on(bit::RAISE_BUTTON), on(bit::LOWER_BUTTON));
@@ -133,11 +139,38 @@ impl Watcher {
         if !rests || outputs[14] == 1 {
             return (0, 0);
         }
+        let real = self.press(input);
+        match real.or(self.pressed) {
+            Some(Direction::Raise) if outputs[15] == 0 => self.begin(real, (1, 0)),
+            Some(Direction::Lower) if outputs[16] == 0 => self.begin(real, (0, 1)),
+            _ => (0, 0),
+        }
+    }
+
+    /// Counts a manual command that begins by a real press or by none.
+    fn begin(&mut self, real: Option<Direction>, way: (u32, u32)) -> (u32, u32) {
+        self.carried_out += u32::from(real.is_none());
+        way
+    }
+
+    /// The one button that is pressed, if it was not before.
+    fn press(&self, input: &Input) -> Option<Direction> {
         let raise = input.contacts.on(bit::RAISE_BUTTON);
         let lower = input.contacts.on(bit::LOWER_BUTTON);
-        let raises = raise && !lower && !self.buttons.0 && outputs[15] == 0;
-        let lowers = lower && !raise && !self.buttons.1 && outputs[16] == 0;
-        (u32::from(raises), u32::from(lowers))
+        let raises = (raise && !lower && !self.buttons.0).then_some(Direction::Raise);
+        let lowers = (lower && !raise && !self.buttons.1).then_some(Direction::Lower);
+        raises.or(lowers)
+    }
+
+    /// Keeps the last press of a command or move, until something drops it or a
+    /// tick starts at rest.
+    fn remember(&mut self, input: &Input, outputs: &Outputs) {
+        let dropped = outputs[27] == 1 || outputs[19..=22] != [0; 4] || input.contacts.on(bit::LOCAL_DRIVE);
+        if self.at_rest() || dropped {
+            self.pressed = None;
+        } else if let Some(press) = self.press(input) {
+            self.pressed = Some(press);
+        }
     }
 
     /// Run-away or long shows output 23 for T8 ticks, or all along.
@@ -178,6 +211,7 @@ impl Watcher {
 fn a_watcher_agrees() {
     // By the number of slot 63.
     let mut commands = [0, 0];
+    let mut carried_out = [0, 0];
     for seed in 1_000..1_200 {
         let mut scene = Scene::new(seed);
         let mut watcher = Watcher::new(scene.record.settings);
@@ -185,7 +219,10 @@ fn a_watcher_agrees() {
             let (input, ticked) = scene.next_tick();
             watcher.watch(&input, &ticked.outputs);
         }
-        commands[watcher.settings[slot::CONTINUOUS] as usize] += watcher.commands;
+        let kind = watcher.settings[slot::CONTINUOUS] as usize;
+        commands[kind] += watcher.commands;
+        carried_out[kind] += watcher.carried_out;
     }
+    assert!(carried_out.iter().all(|&commands| commands > 100), "only {carried_out:?} by a remembered press");
     assert!(commands.iter().all(|&commands| commands > 300), "only {commands:?} commands");
 }

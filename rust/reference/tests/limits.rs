@@ -158,6 +158,23 @@ fn fault() {
 }
 
 #[test]
+fn remembered_press() {
+    for remembered in [Some(RAISE), Some(Direction::Lower)] {
+        assert!(holds(|r| r.remembered = remembered));
+        assert!(holds(|r| (r.remembered, r.wait) = (remembered, Wait::ToHigh(35_999))));
+        assert!(!holds(|r| (r.remembered, r.wait) = (remembered, Wait::ToHigh(36_000))));
+        for drive in [asked(0), asked_by_button(99), moving(1), moving(100)] {
+            assert!(holds(|r| (r.remembered, r.drive) = (remembered, drive)));
+        }
+        assert!(continuous_holds(20, 20, |r| (r.remembered, r.drive) = (remembered, asked(19))));
+        for fault in [Fault::RunAway, Fault::NotStarted, Fault::Long, Fault::Fast] {
+            assert!(!holds(|r| (r.remembered, r.fault) = (remembered, fault)));
+        }
+        assert!(!continuous_holds(20, 20, |r| (r.remembered, r.fault) = (remembered, Fault::Long)));
+    }
+}
+
+#[test]
 fn organs() {
     for i in 0..ORGANS {
         let organ = |marked, count| Organ { marked, count };

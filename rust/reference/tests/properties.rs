@@ -24,9 +24,20 @@ fn assert_sound(before: &Record, ticked: &Ticked) {
     assert!(outputs[0] + outputs[1] <= outputs[24], "a command at rest");
     let flags = (0..OUTPUTS).filter(|field| ![3, 25].contains(field));
     assert!(flags.into_iter().all(|field| outputs[field] <= 1));
+    assert_sound_memory(before, ticked);
     if is_continuous(&before.settings) {
         assert_sound_without_contact(before, ticked);
     }
+}
+
+/// What holds of the remembered press: none beside a fault or in automatic, none
+/// after a tick that started at rest, so none beside a command that just began.
+fn assert_sound_memory(before: &Record, ticked: &Ticked) {
+    let next = &ticked.next;
+    let free = before.drive == Drive::Rest || next.fault != Fault::None || ticked.outputs[27] == 1;
+    assert!(!free || next.remembered.is_none(), "{before:?}\n{next:?}");
+    let began = before.drive == Drive::Rest && next.drive != Drive::Rest;
+    assert!(!began || next.remembered.is_none(), "{before:?}\n{next:?}");
 }
 
 /// What holds besides of a drive without the contact.
@@ -240,6 +251,7 @@ fn any_record(dice: &mut Dice) -> Record {
     record.operations = any_up_to(dice, 0, 999_999);
     record.raise_button = dice.one_in(2);
     record.lower_button = dice.one_in(2);
+    record.remembered = Some(any_direction(dice)).filter(|_| record.fault == Fault::None && dice.one_in(2));
     record
 }
 

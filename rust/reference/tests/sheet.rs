@@ -237,6 +237,7 @@ fn the_fresh_record() {
     assert_eq!((record.repeat, record.last_direction), (None, None));
     assert_eq!((record.counted_tap, record.operations), (20, 77));
     assert!(record.raise_button && record.lower_button);
+    assert_eq!((record.remembered, Record::zeros().remembered), (None, None));
     assert!(within_limits(&record));
 }
 

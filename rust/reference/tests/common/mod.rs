@@ -2,6 +2,8 @@
 
 #![allow(dead_code)]
 
+pub mod courses;
+
 use reference::floats::{float_of, part_of};
 use reference::input::{bit, Input, READINGS};
 use reference::phasor::Pair;
