@@ -26,6 +26,7 @@ pub mod line;
 pub mod make;
 pub mod make_sheet;
 pub mod motor;
+pub mod operator;
 pub mod organs;
 pub mod phasor;
 pub mod plant;

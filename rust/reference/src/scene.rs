@@ -3,12 +3,13 @@
 use crate::dice::Dice;
 use crate::feeder::{self, goes_by_pairs, length};
 use crate::floats::{float_of, floats_beside, part_of, parts_beside, BESIDE};
-use crate::input::{bit, Input, CONTACTS, READINGS};
+use crate::input::{bit, Contacts, Input, CONTACTS, READINGS};
 use crate::make_sheet;
 use crate::motor::Motor;
+use crate::operator::{in_between, Operator, Phase};
 use crate::plant::Plant;
 use crate::reading::Reading;
-use crate::record::{Direction, Record};
+use crate::record::{Direction, Drive, Record};
 use crate::sheet::{is_continuous, module_k, slot, Settings};
 use crate::stretch::{others, Buttons, Level, Others, Stretch, LOWER, RAISE};
 use crate::tick::{tick, Ticked, OUTPUTS};
@@ -21,6 +22,9 @@ pub struct Scene {
     outputs: [u32; OUTPUTS],
     plant: Plant,
     motor: Motor,
+    operator: Operator,
+    /// Whether the tick before started with a command or move unfinished.
+    unfinished_before: bool,
     stretch: Stretch,
 }
 
@@ -35,6 +39,8 @@ impl Scene {
             outputs: [0; OUTPUTS],
             plant: Plant::new(settings[slot::N_POS]),
             motor: Motor::default(),
+            operator: Operator::default(),
+            unfinished_before: false,
             stretch,
         }
     }
@@ -48,6 +54,7 @@ impl Scene {
         self.stretch.left -= 1;
         let input = self.input();
         let ticked = tick(&self.record, &input);
+        self.unfinished_before = self.record.drive != Drive::Rest;
         self.record = ticked.next.clone();
         self.outputs = ticked.outputs;
         (input, ticked)
@@ -109,13 +116,15 @@ impl Scene {
     fn contacts(&mut self, settings: &Settings) -> u32 {
         let mut contacts = self.stretch.contacts | (self.dice.bits() << CONTACTS);
         contacts |= u32::from(self.switching(settings)) << bit::SWITCHING;
-        contacts |= match self.stretch.buttons {
+        contacts ^= match self.stretch.buttons {
             Buttons::Still(bits) => bits,
             Buttons::Tapped if self.dice.one_in(6) => self.dice.pick(&[RAISE, LOWER]),
             Buttons::Tapped => 0,
+            Buttons::Busy => self.busy(contacts),
         };
         let fault = self.outputs[19..=22].contains(&1);
-        if fault && self.dice.one_in(25) {
+        let resets = if let Buttons::Busy = self.stretch.buttons { 8 } else { 25 };
+        if fault && self.dice.one_in(resets) {
             contacts |= 1 << bit::RESET;
         }
         if self.dice.one_in(self.stretch.flips) {
@@ -128,6 +137,19 @@ impl Scene {
             contacts ^= 1 << self.dice.between(0, CONTACTS - 1);
         }
         contacts
+    }
+
+    /// What a busy operator presses, turns of the mode, and what comes between,
+    /// as contacts to turn over.
+    fn busy(&mut self, contacts: u32) -> u32 {
+        let closed = Contacts(contacts).on(bit::SWITCHING);
+        let phase = Phase::of(&self.record, closed, self.unfinished_before);
+        let mut turned = self.operator.press(&mut self.dice, phase) ^ in_between(&mut self.dice, phase);
+        if phase != Phase::Rest && self.dice.one_in(self.stretch.mode_turns) {
+            self.stretch.contacts ^= 1 << bit::AUTOMATIC;
+            turned ^= 1 << bit::AUTOMATIC;
+        }
+        turned
     }
 
     /// The drive's tick, and bit 1: anything where there is no contact.

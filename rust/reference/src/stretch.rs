@@ -2,7 +2,7 @@
 
 use crate::dice::Dice;
 use crate::feeder;
-use crate::input::bit;
+use crate::input::{bit, Contacts};
 use crate::motor::MOTOR_TEMPERS;
 use crate::phasor::Phasor;
 use crate::plant::{Temper, TEMPERS};
@@ -30,6 +30,8 @@ pub enum Level {
 pub enum Buttons {
     Still(u32),
     Tapped,
+    /// Pressed while the drive runs, by the operator.
+    Busy,
 }
 
 /// A stretch of ticks during which little changes.
@@ -51,6 +53,9 @@ pub struct Stretch {
     pub unneeded_noise: u32,
     /// One tick in so many has a flipped contact.
     pub flips: u32,
+    /// With a busy operator, the mode turns over on one tick in so many of a
+    /// command or move.
+    pub mode_turns: u32,
 }
 
 /// The readings besides U_AB and its pair, in whole thousandths.
@@ -67,18 +72,22 @@ pub const LOWER: u32 = 1 << bit::LOWER_BUTTON;
 
 impl Stretch {
     pub fn new(dice: &mut Dice, settings: &Settings) -> Stretch {
+        let contacts = steady_contacts(dice);
+        let automatic = Contacts(contacts).on(bit::AUTOMATIC);
+        let buttons = buttons(dice, automatic);
         Stretch {
             left: dice.pick(&[1, 10, 100, 200, 300]) + dice.between(0, 100),
-            contacts: steady_contacts(dice),
+            contacts,
             level: if goes_by_u_comp(settings) && dice.one_in(5) { Level::BesideEdges } else { level(dice) },
             scalar_level: Some(level(dice)).filter(|_| !dice.one_in(3)),
-            temper: dice.pick(if is_continuous(settings) { &MOTOR_TEMPERS } else { &TEMPERS }),
-            buttons: buttons(dice),
+            temper: temper(dice, settings, buttons),
+            buttons,
             others: others(dice, settings),
             others_change: if goes_by_u_comp(settings) { dice.pick(&[100, 100, 100, 4]) } else { 100 },
             noise: dice.pick(&[0, 0, 0, 0, 200, 60, 10]),
             unneeded_noise: dice.pick(&[0, 0, 30, 3]),
             flips: dice.pick(&[0, 0, 0, 0, 300, 60, 10]),
+            mode_turns: dice.pick(if automatic { &[8, 30] } else { &[0, 0, 20] }),
         }
     }
 }
@@ -120,10 +129,22 @@ fn level(dice: &mut Dice) -> Level {
     }
 }
 
-fn buttons(dice: &mut Dice) -> Buttons {
+/// A busy operator often has a proper drive, so that more moves end well.
+fn temper(dice: &mut Dice, settings: &Settings, buttons: Buttons) -> Temper {
+    match (buttons, is_continuous(settings)) {
+        (_, true) => dice.pick(&MOTOR_TEMPERS),
+        (Buttons::Busy, false) if dice.one_in(2) => Temper::Proper,
+        (_, false) => dice.pick(&TEMPERS),
+    }
+}
+
+/// In manual stretches the operator is mostly busy, in automatic ones seldom.
+fn buttons(dice: &mut Dice, automatic: bool) -> Buttons {
     match dice.between(0, 5) {
         0 => Buttons::Still(dice.pick(&[RAISE, LOWER, RAISE | LOWER])),
-        1..=2 => Buttons::Still(0),
+        1 if automatic => Buttons::Busy,
+        1..=4 if !automatic => Buttons::Busy,
+        2 => Buttons::Still(0),
         _ => Buttons::Tapped,
     }
 }

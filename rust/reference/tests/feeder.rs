@@ -114,7 +114,7 @@ fn edges(settings: &Settings, input: &Input) -> [i64; 2] {
 fn u_lies_on_and_beside_the_edges() {
     let mut beside = [[0; 3]; 2];
     let mut fast = [0; 2];
-    on_ticks(0..300, |_, before, input, _| {
+    on_ticks(0..900, |_, before, input, _| {
         let settings = &before.settings;
         let Some(u) = judge(settings, input).u else { return };
         for (counts, edge) in beside.iter_mut().zip(edges(settings, input)) {
@@ -126,7 +126,7 @@ fn u_lies_on_and_beside_the_edges() {
             *count += u32::from(u == i64::from(settings[slot::U_SET5]) + by);
         }
     });
-    assert!(beside.as_flattened().iter().chain(&fast).all(|&count| count > 100), "{beside:?}, {fast:?}");
+    assert!(beside.as_flattened().iter().chain(&fast).all(|&count| count > 300), "{beside:?}, {fast:?}");
 }
 
 /// The quadrant of a phasor that is on no axis.
