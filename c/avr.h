@@ -257,6 +257,7 @@ typedef struct {
     uint32_t operations;
     uint32_t raise_button; /* on the previous tick: 0 or 1 */
     uint32_t lower_button; /* on the previous tick: 0 or 1 */
+    uint32_t remembered;   /* enum avr_way: the press made in manual mode while the drive ran; none beside a fault */
 } avr_image;
 
 /*
@@ -369,7 +370,8 @@ AVR_FOLLOWS(avr_image, counted_tap, last);
 AVR_FOLLOWS(avr_image, operations, counted_tap);
 AVR_FOLLOWS(avr_image, raise_button, operations);
 AVR_FOLLOWS(avr_image, lower_button, raise_button);
-AVR_ENDS(avr_image, lower_button);
+AVR_FOLLOWS(avr_image, remembered, lower_button);
+AVR_ENDS(avr_image, remembered);
 
 AVR_ASSERT(sizeof(float) == sizeof(uint32_t), "float");
 AVR_FOLLOWS(avr_sample, value, quality);

@@ -93,6 +93,7 @@ static void hold_started(const avr_started *s, const uint32_t *list) {
     hold("the fresh operations", s->image.operations, list[AVR_SLOT_N_START]);
     hold("the fresh raise button", s->image.raise_button, 1);
     hold("the fresh lower button", s->image.lower_button, 1);
+    hold("the fresh remembered press", s->image.remembered, AVR_WAY_NEITHER);
 }
 
 static void hold_image(const avr_image *m, const uint32_t *list) {
@@ -110,12 +111,14 @@ static void hold_image(const avr_image *m, const uint32_t *list) {
     hold("the operations", m->operations, list[AVR_SLOT_N_START]);
     hold("the raise button", m->raise_button, 1);
     hold("the lower button", m->lower_button, 0);
+    hold("the remembered press", m->remembered, AVR_WAY_NEITHER);
 }
 
-/* Ticks between canaries; then the same by value. */
+/* Ticks between canaries, on a record with a remembered press, which the first one drops; then the same by value. */
 static void hold_ticks(lent *l, const uint32_t *list) {
     avr_brought in = brought();
     avr_ticked by_value = {0};
+    l->image.remembered = AVR_WAY_LOWER;
     by_value.next = l->image;
     for (int i = 0; i < TICKS; i++) {
         memset(&l->outputs, CANARY, sizeof l->outputs);
@@ -135,7 +138,7 @@ static void hold_ticks(lent *l, const uint32_t *list) {
 /* A refused tick writes 0 to each output, and nothing else. */
 static void hold_refused(lent *l) {
     avr_brought in = brought();
-    l->image.lower_button = 2;
+    l->image.remembered = AVR_WAY_LOWER + 1;
     avr_image before = l->image;
     memset(&l->outputs, CANARY, sizeof l->outputs);
     hold("the answer to no record's image", avr_tick(&l->image, &in, &l->outputs), AVR_REFUSED_IMAGE);

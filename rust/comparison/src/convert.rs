@@ -32,6 +32,7 @@ pub fn image_of(record: &Record) -> Image {
         operations: record.operations,
         raise_button: u32::from(record.raise_button),
         lower_button: u32::from(record.lower_button),
+        remembered: way(record.remembered),
     }
 }
 
@@ -72,6 +73,7 @@ pub fn record_of(image: &Image) -> Option<Record> {
         operations: image.operations,
         raise_button: flag(image.raise_button)?,
         lower_button: flag(image.lower_button)?,
+        remembered: way_of(image.remembered)?,
     })
 }
 

@@ -35,7 +35,7 @@ fn number(dice: &mut Dice, image: &Image, old: u32) -> u32 {
     }
 }
 
-/// A drive, a fault and a wait of their own, each about its limit.
+/// A drive, a fault, a wait and a remembered press of their own, each about its limit.
 fn drive_and_wait(dice: &mut Dice, settings: &Settings, image: &mut Image) {
     image.drive = drive(dice, settings);
     let rests = image.drive.kind == 0;
@@ -55,6 +55,7 @@ fn drive_and_wait(dice: &mut Dice, settings: &Settings, image: &mut Image) {
     image.wait = WaitImage { side, ticks };
     image.repeat = dice.between(0, 2);
     image.last = dice.between(0, 2);
+    image.remembered = if fault == 0 || dice.one_in(4) { dice.between(0, 2) } else { 0 };
 }
 
 fn drive(dice: &mut Dice, settings: &Settings) -> DriveImage {

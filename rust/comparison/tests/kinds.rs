@@ -102,6 +102,27 @@ fn drives_directions_and_ways() {
     unit.hold(unit.image.last, "AVR_WAY_LOWER");
 }
 
+/// A press in manual mode while the drive runs, and the other one as the move ends; carried out, none is left.
+#[test]
+fn remembered_presses() {
+    let mut unit = Unit::asked();
+    unit.hold(unit.image.remembered, "AVR_WAY_NEITHER");
+    unit.contacts(&["BREAKER_CLOSED", "SWITCHING"]);
+    unit.ticks(100.0, 12);
+    unit.contacts(&["BREAKER_CLOSED", "SWITCHING", "LOWER_BUTTON"]);
+    unit.ticks(100.0, 1);
+    unit.hold(unit.image.remembered, "AVR_WAY_LOWER");
+    unit.contacts(&["BREAKER_CLOSED", "RAISE_BUTTON"]);
+    unit.ticks(100.0, 1);
+    unit.hold(unit.image.drive.kind, "AVR_DRIVE_RESTING");
+    unit.hold(unit.image.remembered, "AVR_WAY_RAISE");
+    unit.contacts(&["BREAKER_CLOSED"]);
+    unit.ticks(100.0, 1);
+    unit.hold(unit.image.drive.kind, "AVR_DRIVE_ASKED_MANUALLY");
+    unit.hold(unit.image.drive.direction, "AVR_DIRECTION_RAISE");
+    unit.hold(unit.image.remembered, "AVR_WAY_NEITHER");
+}
+
 #[test]
 fn waits() {
     let mut unit = Unit::new();

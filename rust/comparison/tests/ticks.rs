@@ -51,13 +51,29 @@ fn way(settings: &Settings) -> usize {
     }
 }
 
-/// How often each output was on, how many commands began, and how many ticks were low, in band or without U, and high with each
-/// way of compensation.
+/// What becomes of presses while the drive runs: remembered, replaced by the other one, carried out, gone without a command.
+const PRESSES: [&str; 4] = ["remembered", "replaced", "carried out", "dropped"];
+
+/// What one tick did to a remembered press.
+fn press(before: &Image, after: &Image) -> Option<usize> {
+    let asked = matches!(after.drive.kind, 1 | 4);
+    match (before.remembered, after.remembered) {
+        (0, 0) => None,
+        (0, _) => Some(0),
+        (old, 0) if before.drive.kind == 0 && asked && after.drive.direction == old - 1 => Some(2),
+        (_, 0) => Some(3),
+        (old, new) => (old != new).then_some(1),
+    }
+}
+
+/// How often each output was on, how many commands began, how many ticks were low, in band or without U, and high with each way of
+/// compensation, and what became of presses with a switching contact and without.
 #[derive(Default)]
 struct Seen {
     on: [u64; FIELDS],
     commands: u64,
     sides: [[u64; 3]; WAYS.len()],
+    presses: [[u64; PRESSES.len()]; 2],
 }
 
 impl Seen {
@@ -80,7 +96,7 @@ fn run(seed: u64, dice: &mut Dice, seen: &mut Seen) {
     let mut image = started.image;
     let mut outputs = Outputs { fields: [0; FIELDS] };
     for t in 0..TICKS {
-        let before = outputs;
+        let (before, record) = (outputs, image);
         let (input, ticked) = scene.next_tick();
         let answer = tick(&mut image, &brought(&input, dice), &mut outputs);
         let at = || format!("seed {seed}, tick {t}: {input:?}");
@@ -88,6 +104,9 @@ fn run(seed: u64, dice: &mut Dice, seen: &mut Seen) {
         assert_eq!(outputs.fields, ticked.outputs, "{}", at());
         assert_eq!(image, image_of(&ticked.next), "{}", at());
         seen.add(way(&image.settings), &before, &outputs);
+        if let Some(fate) = press(&record, &image) {
+            seen.presses[image.settings[slot::CONTINUOUS] as usize][fate] += 1;
+        }
     }
 }
 
@@ -101,8 +120,10 @@ fn runs() {
     println!("{} ticks, {} commands", RUNS * TICKS as u64, seen.commands);
     println!("ticks with each output on: {:?}", seen.on);
     println!("ticks low, neither and high, compensated {}: {:?}", WAYS.join(", "), seen.sides);
+    println!("presses {}, with the contact and without: {:?}", PRESSES.join(", "), seen.presses);
     assert!(seen.on.iter().all(|&n| n > 0), "an output never came on");
     assert!(seen.sides.iter().flatten().all(|&n| n > 100_000), "a way of compensation is seldom tried: {:?}", seen.sides);
+    assert!(seen.presses.iter().flatten().all(|&n| n > 1_000), "a press in a move is seldom tried: {:?}", seen.presses);
 }
 
 /// Records within their limits and outside, and images of no record: one tick, and the next ones where it is accepted.

@@ -57,6 +57,7 @@ pub struct Image {
     pub operations: u32,
     pub raise_button: u32,
     pub lower_button: u32,
+    pub remembered: u32,
 }
 
 /// A reading: its quality, and a number in V or A, which counts as the nearest whole mV or mA, a half going up; a part of a pair
