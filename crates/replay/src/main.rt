@@ -1,7 +1,8 @@
 // `replay SHEET RECORDING`: the answer to the sheet, and then a line of outputs for each recorded tick.
 //
-// `data/` was made by the second program, `reference`: the sheet of seed 1003, which compensates along R and X, and the recordings
-// of seeds 1003 and 184, of 1,300 and 500 ticks, one after the other. `stdout` is what that program prints of them.
+// `data/` was made by the second program, `reference`: the sheet of seed 421, which compensates along R and X, and the recordings
+// of seeds 421 and 55, of 1,300 and 500 ticks, one after the other; seven commands in them are presses that were made while the
+// drive ran. `stdout` is what that program prints of them.
 mod failing;
 mod reading;
 mod running;
