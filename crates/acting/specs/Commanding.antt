@@ -59,7 +59,8 @@ regulatedOf s c a b m d =
       repeat = repeatOf (c .automatic) (isInBand (a .level)) (sideOf (a .level)) (decisionOf s c a b m d .command) (m .repeat);
     }
 
--- 02, ticket 6: "fault, automatic, local drive and out drop it"; out is rule 1, whose fresh record holds none
+-- 02, ticket 6: "fault, automatic, local drive and out drop it", so that a press is remembered "in manual mode" alone; out is rule 1, whose
+-- fresh record holds none
 unfoldable pub dropsOf : Contacts → Fault → Bool
 dropsOf c f = isFault f || c .automatic || c .«local_drive»
 
