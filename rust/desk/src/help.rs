@@ -84,7 +84,9 @@ comment line. A column that is not there is 0.
                   magnitude and degrees: `0.8@-30`, `0.8@-30 held`, `invalid`. A current at -30 lags a U_AB at 0 by 30.
   contacts        breaker switching supply_off oil_cold oil_low oil_high end_up end_down ext_overcurrent ext_block
                   ext_raise_block ext_lower_block reset out automatic local U_supp2 U_supp3 U_supp4 raise lower:
-                  1 or 0, on or off, closed or open
+                  1 or 0, on or off, closed or open. In manual mode a press of raise or lower while the drive runs is
+                  remembered, the latest one, and carried out at rest unless it is blocked then. A fault, automatic, local
+                  and out drop it.
   BCD             the tap on the lines, `24`, or the lines themselves, `0x1a`
   sensor          0 to 255
   drive           the simulated drive: ok, does-not-start, runs-on (a move does not end), self-raise, self-lower (closes once
@@ -125,6 +127,9 @@ Runs the unit with the sheet (text or SHEET) over a scenario (CSV) or a RECORDIN
 
 Tick n is told at n times 0.005 s. What a row brings at 10 s is seen first on the tick after, at 10.005 s; a delay of 20 s that
 begins there ends at 30 s. Readings of a recording are not told in the table.
+
+In the table `in` is what a tick brings, `out` what the unit gives out, and `unit` what it remembers: a press made while the drive
+runs. When that press is gone, its command on the same tick says that it was carried out; without one it was dropped.
 
 The table tells pairs by their parts, the picture by their magnitudes, |U_AB|, and by the degrees that a current is ahead of U_AB.
 A remark on standard error says where XB4 = RX needs a pair that the scenario does not give.

@@ -4,10 +4,12 @@ use std::ops::RangeInclusive;
 
 use library::ORGANS;
 
+use crate::drive::Way;
 use crate::inputs::{is_on, CONTACTS, SWITCHING};
 use crate::outputs::{
     short, BLOCKS, FAULTS, HIGH, LOW, LOWER, RAISE, RANGE_ERROR, SHORT, SUPPLY_TRIP, TRIPS, WORN, WRONG_CODE,
 };
+use crate::press;
 use crate::run::{History, Signal};
 use crate::svg::{BLACK, BLUE, GREEN, ORANGE, PURPLE, SKY, VERMILLION, YELLOW};
 
@@ -79,6 +81,15 @@ pub fn contacts(history: &History, continuous: bool) -> Group {
     let bits = (0..CONTACTS.len() as u32).filter(|bit| *bit != SWITCHING || continuous);
     let lanes = bits.map(|bit| lane(format!("in: {}", CONTACTS[bit as usize].name), GREEN, contact_on(history, bit)));
     lanes.filter(|lane| !lane.on.is_empty()).collect()
+}
+
+/// A lane for each way in which a press was ever remembered, in the colour of its command.
+pub fn remembered(history: &History) -> Group {
+    let lanes = [(Way::Raise, BLUE, Tip::Up), (Way::Lower, VERMILLION, Tip::Down)].map(|(way, colour, tip)| {
+        let on = spans(&history.remembered, history.ticks, |press| *press == Some(way));
+        Lane { tip, ..lane(press::short(way).to_string(), colour, on) }
+    });
+    lanes.into_iter().filter(|lane| !lane.on.is_empty()).collect()
 }
 
 fn output(history: &History, field: usize, label: &str, colour: &'static str) -> Lane {

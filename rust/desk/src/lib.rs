@@ -21,6 +21,7 @@ pub mod panel;
 pub mod phasor;
 pub mod picture;
 pub mod play;
+pub mod press;
 pub mod progress;
 pub mod recording;
 pub mod run;

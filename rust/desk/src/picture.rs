@@ -58,7 +58,9 @@ fn description(list: &[u32]) -> &'static str {
 fn groups(history: &History, list: &[u32]) -> Vec<Group> {
     let continuous = is_continuous(list);
     let groups = [lanes::moving(history, continuous), Group::new(), lanes::blocks(history), lanes::alarms(history, continuous)];
-    let optional = [lanes::notes(history), lanes::contacts(history, continuous)];
+    let mut contacts = lanes::contacts(history, continuous);
+    contacts.extend(lanes::remembered(history));
+    let optional = [lanes::notes(history), contacts];
     groups.into_iter().chain(optional.into_iter().filter(|group| !group.is_empty())).collect()
 }
 

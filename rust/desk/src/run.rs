@@ -2,6 +2,7 @@
 
 use library::{Brought, Sample, FIELDS, READINGS};
 
+use crate::drive::Way;
 use crate::file::Errors;
 use crate::play::Source;
 use crate::progress::Progress;
@@ -16,6 +17,7 @@ pub struct History {
     pub ticks: u32,
     pub readings: [Signal<Sample>; READINGS],
     pub contacts: Signal<u32>,
+    pub remembered: Signal<Option<Way>>,
     pub outputs: [Signal<u32>; FIELDS],
 }
 
@@ -34,6 +36,7 @@ pub fn run(
         each(&brought);
         outputs = unit.tick(&brought).map_err(|number| vec![format!("tick {tick} is refused (refusal {number})")])?;
         history.note(tick, &brought, &outputs);
+        keep(&mut history.remembered, tick, unit.remembered());
         progress.tick(tick, ticks);
     }
     progress.end();

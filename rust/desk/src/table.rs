@@ -3,10 +3,11 @@
 use crate::cells;
 use crate::inputs::{is_on, CONTACTS, READINGS};
 use crate::outputs;
+use crate::press;
 use crate::run::{History, Signal};
 use crate::sheet::is_continuous;
 
-/// A change: its tick, whether it comes in or goes out, and its words.
+/// A change: its tick, whether it comes in, goes out or stays in the unit, and its words.
 struct Change {
     tick: u32,
     side: &'static str,
@@ -20,6 +21,7 @@ pub fn table(history: &History, list: &[u32], readings: bool) -> String {
         reading_changes(history, &mut changes);
     }
     contact_changes(&history.contacts, &mut changes);
+    press_changes(history, &mut changes);
     output_changes(history, is_continuous(list), &mut changes);
     changes.sort_by_key(|change| change.tick);
     let mut text = format!("{:>11}  {:>9}  {:<4} change\n", "seconds", "tick", "");
@@ -79,6 +81,15 @@ fn contact_changes(signal: &Signal<u32>, changes: &mut Vec<Change>) {
             }
         }
         before = *contacts;
+    }
+}
+
+/// No press is remembered before the first tick, so that none on it is no change.
+fn press_changes(history: &History, changes: &mut Vec<Change>) {
+    for (tick, now) in &history.remembered {
+        if *tick > 1 || now.is_some() {
+            changes.push(Change { tick: *tick, side: "unit", words: press::words(*now).to_string() });
+        }
     }
 }
 

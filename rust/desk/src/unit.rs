@@ -2,6 +2,8 @@
 
 use library::{Brought, Image, Outputs, FIELDS};
 
+use crate::drive::Way;
+
 /// Why a sheet is refused: the refusal's number and its slot.
 #[derive(Clone, Copy, Debug, PartialEq, Eq)]
 pub struct Refusal {
@@ -18,7 +20,7 @@ pub const TAP_ORDER: u32 = 3;
 /// A counted tap with continuous regulation.
 pub const COUNTED: u32 = 5;
 
-/// A regulator that runs. The tool never looks into its image.
+/// A regulator that runs. Of its image the tool looks at the remembered press alone.
 pub struct Unit {
     image: Image,
 }
@@ -39,6 +41,15 @@ impl Unit {
         match library::tick(&mut self.image, brought, &mut outputs) {
             0 => Ok(outputs.fields),
             number => Err(number),
+        }
+    }
+
+    /// The press that it remembers until the drive is at rest.
+    pub fn remembered(&self) -> Option<Way> {
+        match self.image.remembered {
+            1 => Some(Way::Raise),
+            2 => Some(Way::Lower),
+            _ => None,
         }
     }
 }

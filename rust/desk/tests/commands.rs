@@ -61,6 +61,14 @@ fn help_tells_of_pairs_and_ratings() {
 }
 
 #[test]
+fn help_tells_of_a_press_while_the_drive_runs() {
+    let write = out(&avr(&["scenario", "write", "--help"]));
+    assert!(write.contains("a press of raise or lower while the drive runs is"));
+    let run = out(&avr(&["run", "--help"]));
+    assert!(run.contains("and `unit` what it remembers: a press made while the drive\nruns."));
+}
+
+#[test]
 fn a_wrong_command_line_is_status_2() {
     for words in [
         vec![],
