@@ -229,7 +229,7 @@ fn a_scenario_with_a_drive_needs_a_sheet() {
     assert_eq!(fs::read(&recording).expect("a RECORDING").len(), 400 * recording::BYTES);
 }
 
-/// The outputs' lines of a table, with the time and tick they stand under.
+/// The lines of a table that are the unit's, with the time and tick they stand under.
 fn outputs(table: &str) -> Vec<String> {
     let mut time = String::new();
     let mut lines = Vec::new();
@@ -238,7 +238,7 @@ fn outputs(table: &str) -> Vec<String> {
         if !head.is_empty() {
             time = head.to_string();
         }
-        if line.contains("  out  ") {
+        if line.contains("  out  ") || line.contains("  unit ") {
             lines.push(format!("{time} {}", line.get(24..).unwrap_or("")));
         }
     }
@@ -248,7 +248,9 @@ fn outputs(table: &str) -> Vec<String> {
 #[test]
 fn a_recording_of_an_example_runs_as_the_example_does() {
     let folder = Folder::new("replay");
-    for story in ["two-steps", "sliding-tap", "long-move", "continuous-in-band", "continuous-long", "long-feeder"] {
+    for story in
+        ["two-steps", "sliding-tap", "long-move", "press-in-a-move", "continuous-in-band", "continuous-long", "long-feeder"]
+    {
         let place = |name: &str| examples().join(story).join(name).to_str().expect("a plain path").to_string();
         let (sheet, scenario, recording) = (place("sheet.txt"), place("scenario.csv"), folder.path("a.rec"));
         let written = avr(&["scenario", "write", &scenario, "--sheet", &sheet, "-o", &recording]);

@@ -6,7 +6,7 @@ use std::fs;
 
 use common::{avr, between, check_texts, err, examples, out, Folder};
 
-const STORIES: [&str; 15] = [
+const STORIES: [&str; 16] = [
     "acceleration",
     "band-edge",
     "breaker-rating",
@@ -19,6 +19,7 @@ const STORIES: [&str; 15] = [
     "manual-keys",
     "not-started",
     "organ-blocks",
+    "press-in-a-move",
     "run-away",
     "sliding-tap",
     "two-steps",
@@ -82,6 +83,7 @@ fn each_story_is_told() {
         ("fast-move", vec!["out  FAULT: fast move"]),
         ("sliding-tap", vec!["out  tap 10", "out  tap 11", "operations 2"]),
         ("manual-keys", vec!["raise button pressed", "out  RAISE command", "out  LOWER command"]),
+        ("press-in-a-move", vec![AGAIN, LATEST, RAISE_BLOCKED, MADE_AUTOMATIC]),
         ("organ-blocks", vec!["TRIP: I_bus over I_set2", "out  automatic blocked", "out  automatic free"]),
         ("band-edge", vec!["U_AB 100.0994 V\n     40.005", "U_AB 100.1 V\n                        out  voltage high"]),
         ("compensation", vec!["I_bus 0.4 A\n                        out  voltage low"]),
@@ -139,6 +141,59 @@ const TURNED: &str = "\
                         out  voltage high
      80.000      16000  out  LOWER command
 ";
+
+/// The second raise of the press in the first move.
+const AGAIN: &str = "\
+     10.510       2102  unit remembered press gone
+                        out  RAISE command
+                        out  tap 10
+";
+
+/// Raise and then lower in the second move.
+const LATEST: &str = "\
+     14.505       2901  in   lower button pressed
+                        unit lower press remembered
+     15.005       3001  in   lower button released
+     17.010       3402  in   U_AB 103 V
+                        in   switching contact open
+                        out  drive at rest
+     17.015       3403  unit remembered press gone
+                        out  LOWER command
+";
+
+/// Dropped at rest, since it is blocked there; no command follows when the block has gone.
+const RAISE_BLOCKED: &str = "\
+     23.520       4704  unit remembered press gone
+                        out  tap 10
+     30.005       6001  in   external raise block gone
+                        out  raise free
+     36.005       7201  in   lower button pressed
+";
+
+/// Dropped in the move, after which no command follows.
+const MADE_AUTOMATIC: &str = "\
+     40.005       8001  in   key: automatic
+                        unit remembered press gone
+                        out  automatic mode
+     41.005       8201  in   key: manual
+                        out  manual mode
+     42.505       8501  in   U_AB 100 V
+                        in   switching contact open
+                        out  voltage no longer high
+                        out  drive at rest
+     42.510       8502  out  tap 9
+     60.000      12000  end
+";
+
+/// Its table and its picture, and no other's.
+#[test]
+fn one_story_tells_of_a_remembered_press() {
+    for story in STORIES {
+        let told = story == "press-in-a-move";
+        assert_eq!(read(story, "table.txt").contains(" unit "), told, "{story}");
+        assert_eq!(read(story, "picture.svg").contains(">remembered: "), told, "{story}");
+    }
+}
 
 /// At the busbar the voltage is in its band, 97.5 to 102.5 V, on every tick.
 #[test]
