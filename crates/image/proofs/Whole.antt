@@ -13,17 +13,18 @@ use Rattle.image.specs.declared.Image.{Image}
 use Rattle.image.specs.declared.FromImage.{FromImage}
 use Rattle.coding.specs.declared.DriveImage.{DriveImage}
 use Rattle.coding.specs.declared.WaitImage.{WaitImage}
+use Rattle.image.specs.declared.images.WayNumbers.{WayNumbers}
 use Rattle.image.specs.declared.places.OrganNumbers.{OrganNumbers}
-use Rattle.coding.specs.Numbers.{bitOf, isBit, wayNumber, isWay, faultNumber, isFault, driveImage, isDrive, waitImage, isWait}
+use Rattle.coding.specs.Numbers.{bitOf, isBit, isWay, faultNumber, isFault, driveImage, isDrive, waitImage, isWait}
 use Rattle.image.specs.Places.{organNumbers, areMarks}
-use Rattle.image.specs.Images.{imageOf, isRecord, stateOf, takenOf, recordOf}
+use Rattle.image.specs.Images.{wayNumbers, imageOf, isRecord, stateOf, takenOf, recordOf}
 use Rattle.coding.proofs.Cases.{bit-back, bit-is, bit-same, way-back, way-is, way-same, fault-back, fault-is, fault-same, drive-back, drive-is, drive-same, wait-back, wait-is, wait-same}
 use Rattle.image.proofs.Organs.{organs-back, organs-are, marks-same, counts-same}
 
 -- ---- from the record
 
 pub state-back : (r : Regulator) → stateOf (imageOf r) ≡ r
-unfolding stateOf imageOf
+unfolding stateOf imageOf wayNumbers
 state-back r =
     rw (
       organs-back (r .organs),
@@ -38,7 +39,7 @@ state-back r =
     )
 
 pub image-is : (r : Regulator) → isRecord (imageOf r) ≡ true
-unfolding isRecord imageOf
+unfolding isRecord imageOf wayNumbers
 image-is r =
     rw (
       organs-are (r .organs),
@@ -96,7 +97,7 @@ module _ (m : Image) (p : isRecord m ≡ true) where
       )
 
   pub image-same : length (m .«organ_marks») ≡ length (m .«organ_counts») → imageOf (stateOf m) ≡ m
-  unfolding imageOf stateOf
+  unfolding imageOf stateOf wayNumbers
   image-same h =
       rw (
         marks-same _ _ (parts .0) h,
@@ -113,9 +114,9 @@ module _ (m : Image) (p : isRecord m ≡ true) where
 
 -- ---- over plain values, as the functions ask it
 
-module _ (r : Regulator) {n : OrganNumbers} {d : DriveImage} {f p q u : ℕ} {w : WaitImage} where
+module _ (r : Regulator) {n : OrganNumbers} {d : DriveImage} {f : ℕ} {w : WaitImage} {u : WayNumbers} where
   pub image-made : n ≡ organNumbers (r .organs) → d ≡ driveImage (r .drive) → f ≡ faultNumber (r .latch .fault) → w ≡ waitImage (r .wait)
-      → p ≡ wayNumber (r .repeat) → q ≡ wayNumber (r .last) → u ≡ wayNumber (r .remembered)
+      → u ≡ wayNumbers r
       → _≡_ {A = Image}
       (record {
         settings = r .settings;
@@ -125,17 +126,17 @@ module _ (r : Regulator) {n : OrganNumbers} {d : DriveImage} {f p q u : ℕ} {w 
         fault = f;
         «fault_age» = r .latch .age;
         wait = w;
-        repeat = p;
-        last = q;
+        repeat = u .repeat;
+        last = u .last;
         «counted_tap» = r .«counted_tap»;
         operations = r .operations;
         «raise_button» = bitOf (r .buttons .raise);
         «lower_button» = bitOf (r .buttons .lower);
-        remembered = u;
+        remembered = u .remembered;
       })
       (imageOf r)
   unfolding imageOf
-  image-made en ed ef ew ep eq eu = rw (en, ed, ef, ew, ep, eq, eu)
+  image-made en ed ef ew eu = rw (en, ed, ef, ew, eu)
 
 pub imaged : (r : Regulator) {m : Image} → m ≡ imageOf r → (m ≡ imageOf r) × (recordOf m ≡ takenOf r)
 imaged r e = (e, rw e (back r))

@@ -6,8 +6,13 @@ use Rattle.record.specs.declared.Regulator.{Regulator}
 use Rattle.record.specs.Starting.{zerosOf}
 use Rattle.image.specs.declared.Image.{Image}
 use Rattle.image.specs.declared.FromImage.{FromImage}
+use Rattle.image.specs.declared.images.WayNumbers.{WayNumbers}
 use Rattle.coding.specs.Numbers.{bitOf, isBit, wayNumber, isWay, wayOf, faultNumber, isFault, faultOf, driveImage, driveOf, isDrive, waitImage, waitOf, isWait}
 use Rattle.image.specs.Places.{organNumbers, organsOf, areMarks}
+
+-- the side of the last automatic command, the last direction and the remembered press
+unfoldable pub wayNumbers : Regulator → WayNumbers
+wayNumbers r = record { repeat = wayNumber (r .repeat); last = wayNumber (r .last); remembered = wayNumber (r .remembered) }
 
 unfoldable pub imageOf : Regulator → Image
 imageOf r =
@@ -19,13 +24,13 @@ imageOf r =
       fault = faultNumber (r .latch .fault);
       «fault_age» = r .latch .age;
       wait = waitImage (r .wait);
-      repeat = wayNumber (r .repeat);
-      last = wayNumber (r .last);
+      repeat = wayNumbers r .repeat;
+      last = wayNumbers r .last;
       «counted_tap» = r .«counted_tap»;
       operations = r .operations;
       «raise_button» = bitOf (r .buttons .raise);
       «lower_button» = bitOf (r .buttons .lower);
-      remembered = wayNumber (r .remembered);
+      remembered = wayNumbers r .remembered;
     }
 
 -- each number that stands for a case is one of its numbers

@@ -1,12 +1,35 @@
 // The image of a record, and the record of an image.
 ghost use mathlib.Core.Path.{_≡_};
 ghost use mathlib.Core.Bool.{true};
-ghost use Rattle.image.specs.Images.{imageOf, isRecord, stateOf, takenOf, recordOf};
+ghost use Rattle.image.specs.Images.{wayNumbers, imageOf, isRecord, stateOf, takenOf, recordOf};
 use crate::FromImage;
 use crate::Image;
 use command::Buttons;
 use fault::Latch;
 use record::Regulator;
+
+// The directions that a record remembers, in numbers.
+struct WayNumbers {
+    repeat: u32,
+    last: u32,
+    remembered: u32,
+}
+
+fn way_numbers(r: Regulator) -> WayNumbers
+    ensures { λ w. ⌜ w ≡ wayNumbers r ⌝ }
+{
+    let again = r.repeat;
+    let before = r.last;
+    let press = r.remembered;
+    let repeat = coding::way_number(again);
+    let last = coding::way_number(before);
+    let remembered = coding::way_number(press);
+    WayNumbers {
+        repeat: repeat,
+        last: last,
+        remembered: remembered,
+    }
+}
 
 // The one image of a record. It gives the record back.
 pub fn image_of(r: Regulator) -> Image
@@ -19,19 +42,14 @@ pub fn image_of(r: Regulator) -> Image
     let latch = r.latch;
     let f = latch.fault;
     let w = r.wait;
-    let again = r.repeat;
-    let before = r.last;
     let buttons = r.buttons;
-    let press = r.remembered;
     let numbers = crate::places::organ_numbers(organs);
     let marks = numbers.marks;
     let counts = numbers.counts;
     let drive = coding::drive_image(d);
     let fault = coding::fault_number(f);
     let wait = coding::wait_image(w);
-    let repeat = coding::way_number(again);
-    let last = coding::way_number(before);
-    let remembered = coding::way_number(press);
+    let ways = way_numbers(r);
     Image {
         settings: settings,
         organ_marks: marks,
@@ -40,13 +58,13 @@ pub fn image_of(r: Regulator) -> Image
         fault: fault,
         fault_age: latch.age,
         wait: wait,
-        repeat: repeat,
-        last: last,
+        repeat: ways.repeat,
+        last: ways.last,
         counted_tap: r.counted_tap,
         operations: r.operations,
         raise_button: buttons.raise as u32,
         lower_button: buttons.lower as u32,
-        remembered: remembered,
+        remembered: ways.remembered,
     }
 }
 

@@ -20,7 +20,6 @@ use sensing::observing::Observed;
 use showing::FIELDS;
 use showing::Shown;
 use slots::IN_SERVICE;
-use slots::SLOTS;
 
 // All outputs 0.
 const ALL_OFF: [u32; FIELDS] = [0u32; FIELDS];

@@ -17,20 +17,14 @@ fault-number-requires c κs = search needs
 wait-image-requires : tie.Need-wait-image-requires
 wait-image-requires c κs = search needs
 
-way-number-requires : tie.Need-way-number-requires
-way-number-requires c κs = search needs
+way-numbers-requires : tie.Need-way-numbers-requires
+way-numbers-requires c κs = search needs
 
-way-number-requires-2 : tie.Need-way-number-requires-2
-way-number-requires-2 c κs = search needs
+cast-t16 : tie.Need-cast-t16
+cast-t16 c = search needs
 
-way-number-requires-3 : tie.Need-way-number-requires-3
-way-number-requires-3 c κs = search needs
-
-cast-t21 : tie.Need-cast-t21
-cast-t21 c = search needs
-
-cast-t22 : tie.Need-cast-t22
-cast-t22 c = search needs
+cast-t17 : tie.Need-cast-t17
+cast-t17 c = search needs
 
 returns : tie.Need-returns
 returns c = imaged _ (search image-made)
@@ -43,9 +37,7 @@ image-of-spec =
     drive-image-requires
     fault-number-requires
     wait-image-requires
-    way-number-requires
-    way-number-requires-2
-    way-number-requires-3
-    cast-t21
-    cast-t22
+    way-numbers-requires
+    cast-t16
+    cast-t17
     returns)
