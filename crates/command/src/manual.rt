@@ -56,11 +56,9 @@ pub fn manual_mode(x: Situation) -> Decided
 pub fn remember(rested: bool, dropped: bool, now: Buttons, before: Buttons, earlier: Way) -> Way
     ensures { λ r. ⌜ r ≡ rememberedOf rested dropped now before earlier ⌝ }
 {
-    let latest = pressed(now, before);
-    let press = ways::newer(latest, earlier);
     if rested | dropped {
-        Way::Neither
-    } else {
-        press
+        return Way::Neither;
     }
+    let latest = pressed(now, before);
+    ways::newer(latest, earlier)
 }

@@ -3,17 +3,17 @@ use borrow.Author.Needs.{needs}
 use Rattle.command.proofs.manual.remember.Statement.{statement}
 use Rattle.command.proofs.manual.remember.Tie as tie
 
+returns : tie.Need-returns
+returns c = search made
+
 pressed-requires : tie.Need-pressed-requires
 pressed-requires c κs = search needs
 
 newer-requires : tie.Need-newer-requires
 newer-requires c κs = search needs
 
-returns : tie.Need-returns
-returns c = search made
-
 returns-2 : tie.Need-returns-2
 returns-2 c = search made
 
 pub remember-spec : {M : Type 1} → statement M
-remember-spec = tie.close (tie.spec pressed-requires newer-requires returns returns-2)
+remember-spec = tie.close (tie.spec returns pressed-requires newer-requires returns-2)
