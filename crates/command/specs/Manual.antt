@@ -21,7 +21,8 @@ abbrev pub pressOf : Situation → Way
 pressOf x = pressedOf (x .buttons) (x .before)
 
 -- 02, ticket 6, on the first tick that starts with the drive at rest: a remembered press "is carried out as if pressed alone then"; "a real
--- press on that tick wins"
+-- press on that tick wins". That it is "dropped if blocked or if the drive starts by itself on that tick" is rule 9's own condition of a
+-- press, below and in `decidedOf`.
 unfoldable pub soughtOf : Situation → Way
 soughtOf x = newerOf (pressOf x) (x .remembered)
 

@@ -47,7 +47,8 @@ motionWithin s d w l =
     && (not (isFault (l .fault)) || restsOf d)
     && latchWithin l (slot s t8)
 
--- 02, ticket 6: "an accepted record remembers no press beside a fault"
+-- 02, ticket 6: "an accepted record remembers no press beside a fault; one at rest with a press is read as standing before that first tick",
+-- and so is accepted
 unfoldable pub pressWithin : Fault → Way → Bool
 pressWithin f press = not (isFault f && (raises press || lowers press))
 
