@@ -17,7 +17,7 @@ use Rattle.command.specs.declared.Wait.the-variants.{Idle, For}
 use Rattle.command.specs.declared.Situation.{Situation}
 use Rattle.command.specs.declared.Decided.{Decided}
 use Rattle.command.specs.Automatic.{idleOf, ticksOf, waitedOf, delayOf, waitOnOf, towardOf, sidedOf, keptOf, repeatOf}
-use Rattle.command.specs.Manual.{pressedOf, pressOf, soughtOf, manualOf, rememberedOf}
+use Rattle.command.specs.Manual.{pressedOf, pressOf, soughtOf, grantedOf, manualOf, rememberedOf}
 
 -- the wait to a side
 module _ (n : ℕ) (d : Direction) where
@@ -84,12 +84,12 @@ sought-made x p q = rw (← p) q
 module _ (x : Situation) (r : Decided) {press : Way} {up down : Bool} (p : press ≡ soughtOf x) (u : up ≡ raises press) (w : down ≡ lowers press) where
   pub manual-pressed : (up && not (x .blocks .manual) && not (x .blocks .raise) || down && not (x .blocks .manual) && not (x .blocks .lower)) ≡ true
       → r ≡ record { command = press; wait = Idle } → r ≡ manualOf x
-  unfolding manualOf
+  unfolding manualOf grantedOf
   manual-pressed t q = rw (← p, ← u, ← w) (yes _ _ _ _ t q)
 
   pub manual-idle : (up && not (x .blocks .manual) && not (x .blocks .raise) || down && not (x .blocks .manual) && not (x .blocks .lower)) ≡ false
       → r ≡ idleOf → r ≡ manualOf x
-  unfolding manualOf
+  unfolding manualOf grantedOf
   manual-idle t q = rw (← p, ← u, ← w) (no _ _ _ _ t q)
 
 -- the press that is remembered

@@ -1,7 +1,7 @@
 -- What 02, ticket 6, says of a remembered press, sentence by sentence: of every decision, and of what a tick leaves remembered.
 -- Assumes nothing.
 use mathlib.Core.Path.{_≡_, refl, ap, sym, _∙_}
-use mathlib.Core.Bool.{Bool, true, false, not, _&&_, _||_}
+use mathlib.Core.Bool.{Bool, true, false}
 use mathlib.Core.List.{List}
 use mathlib.Core.Logic.{⊎-elim}
 use Prim.Native.Nat.{ℕ}
@@ -15,10 +15,9 @@ use Rattle.ways.specs.Ways.{raises, lowers, newerOf}
 use Rattle.command.specs.declared.Buttons.{Buttons}
 use Rattle.command.specs.declared.Decided.{Decided}
 use Rattle.command.specs.declared.Situation.{Situation}
-use Rattle.command.specs.declared.Wait.the-variants.{Idle}
 use Rattle.command.specs.Automatic.{idleOf, towardOf, sidedOf, automaticOf}
 use Rattle.command.specs.Deciding.{decidedOf}
-use Rattle.command.specs.Manual.{pressedOf, pressOf, soughtOf, manualOf, rememberedOf}
+use Rattle.command.specs.Manual.{pressedOf, pressOf, soughtOf, grantedOf, manualOf, rememberedOf}
 
 -- one button, or none
 abbrev buttonOf : Way → Buttons
@@ -70,15 +69,7 @@ module _ (s : List ℕ) (x : Situation) (now before : Buttons) (press : Way) whe
   same-manual : x .automatic ≡ false → soughtOf x ≡ soughtOf changed → decidedOf s x ≡ decidedOf s changed
   unfolding manualOf
   same-manual a e =
-      in-manual s x a
-      ∙ (ap
-      (λ (w : Way).
-      choose (x .resting)
-      (choose
-      (raises w && not (x .blocks .manual) && not (x .blocks .raise) || lowers w && not (x .blocks .manual) && not (x .blocks .lower))
-      (record { command = w; wait = Idle }) idleOf) idleOf)
-      e
-      ∙ sym (in-manual s changed a))
+      in-manual s x a ∙ (ap (λ (w : Way). choose (x .resting) (grantedOf (x .blocks) w) idleOf) e ∙ sym (in-manual s changed a))
 
   same-side : (w : Way) → sidedOf s x w ≡ sidedOf s changed w
   unfolding sidedOf towardOf

@@ -20,7 +20,7 @@ use Rattle.command.specs.declared.Wait.the-variants.{Idle, For}
 use Rattle.command.specs.declared.Situation.{Situation}
 use Rattle.command.specs.declared.Decided.{Decided}
 use Rattle.command.specs.Automatic.{idleOf, commandedOf, waitedOf, delayOf, waitOnOf, towardOf, sidedOf}
-use Rattle.command.specs.Manual.{soughtOf, manualOf}
+use Rattle.command.specs.Manual.{soughtOf, grantedOf, manualOf}
 use Rattle.command.specs.Deciding.{decidedOf}
 
 -- the block of the mode
@@ -126,7 +126,7 @@ module _ (s : List ℕ) (x : Situation) where
       commanded-good Lower (record { resting = r; mode = sym (no _ _ _ _ a (sym (b .0))); direction = b .1 })
 
   manual-good : x .resting ≡ true → x .automatic ≡ false → Good (manualOf x)
-  unfolding manualOf
+  unfolding manualOf grantedOf
   manual-good r a = chosen Good _ _ _ (λ p. pressed-good r a (soughtOf x) p) (λ p. idle-good)
 
   pub decided-sound : Sound s x (decidedOf s x)

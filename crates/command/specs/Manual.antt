@@ -5,6 +5,7 @@ use Rattle.ways.specs.declared.Direction.the-variants.{Raise, Lower}
 use Rattle.ways.specs.declared.Way.{Way}
 use Rattle.ways.specs.declared.Way.the-variants.{Neither, To}
 use Rattle.ways.specs.Ways.{raises, lowers, newerOf}
+use Rattle.blocks.specs.declared.Blocks.{Blocks}
 use Rattle.command.specs.declared.Buttons.{Buttons}
 use Rattle.command.specs.declared.Wait.the-variants.{Idle}
 use Rattle.command.specs.declared.Situation.{Situation}
@@ -27,13 +28,15 @@ unfoldable pub soughtOf : Situation → Way
 soughtOf x = newerOf (pressOf x) (x .remembered)
 
 -- "manual and the direction unblocked"
-unfoldable pub manualOf : Situation → Decided
-manualOf x =
+unfoldable pub grantedOf : Blocks → Way → Decided
+grantedOf b press =
     choose
-    (raises (soughtOf x) && not (x .blocks .manual) && not (x .blocks .raise)
-    || lowers (soughtOf x) && not (x .blocks .manual) && not (x .blocks .lower))
-    (record { command = soughtOf x; wait = Idle })
+    (raises press && not (b .manual) && not (b .raise) || lowers press && not (b .manual) && not (b .lower))
+    (record { command = press; wait = Idle })
     idleOf
+
+unfoldable pub manualOf : Situation → Decided
+manualOf x = grantedOf (x .blocks) (soughtOf x)
 
 -- 02, ticket 6: "one press, as rule 9 judges it, blocks aside, made on a tick that starts with a command or move unfinished is remembered in
 -- the record, the latest replacing the earlier one; two buttons newly pressed together change nothing". A tick that starts with the drive
