@@ -98,7 +98,7 @@ module _ (s : List ℕ) (x : Situation) (d : Direction) where
   pub real-press-wins : pressOf x ≡ To d → decidedOf s x ≡ decidedOf s (forgotten x)
   real-press-wins e = ⊎-elim (λ a. automatic-alone s x _ _ _ a) (λ a. same-manual s x _ _ _ a (sought-real e)) (split (x .automatic))
 
--- no button that is not held over from the previous tick is no press
+-- buttons that are all held over from the previous tick are no press
 none-new : (r l r′ l′ : Bool) → (r ≡ true → r′ ≡ true) → (l ≡ true → l′ ≡ true)
     → pressedOf (record { raise = r; lower = l }) (record { raise = r′; lower = l′ }) ≡ Neither
 unfolding pressedOf choose
