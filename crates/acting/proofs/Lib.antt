@@ -2,3 +2,4 @@ pub mod EachKind
 pub mod Parts
 pub mod Made
 pub mod Presses
+pub mod TwoPairs

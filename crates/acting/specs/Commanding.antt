@@ -1,4 +1,4 @@
--- Rule 9 of 01, and 02, ticket 6. Definitions only.
+-- Rule 9 of 01, and 02, tickets 6 and 7. Definitions only.
 use Prim.Native.Nat.{ℕ}
 use mathlib.Core.Bool.{Bool, _&&_, _||_}
 use mathlib.Core.List.{List}
@@ -11,12 +11,14 @@ use Rattle.drive.specs.Follow.{restsOf}
 use Rattle.fault.specs.declared.Fault.{Fault}
 use Rattle.fault.specs.Latches.{isFault}
 use Rattle.blocks.specs.declared.Blocks.{Blocks}
-use Rattle.command.specs.declared.Buttons.{Buttons}
+use Rattle.command.specs.declared.pairs.Keys.{Keys}
+use Rattle.command.specs.declared.pairs.Heard.{Heard}
 use Rattle.command.specs.declared.Decided.{Decided}
 use Rattle.command.specs.declared.Situation.{Situation}
 use Rattle.command.specs.Automatic.{repeatOf}
 use Rattle.command.specs.Deciding.{decidedOf}
 use Rattle.command.specs.Manual.{rememberedOf}
+use Rattle.command.specs.Pairs.{heardOf}
 use Rattle.sensing.specs.declared.assessing.Assessed.{Assessed}
 use Rattle.acting.specs.declared.commanding.Memory.{Memory}
 use Rattle.acting.specs.declared.commanding.Regulated.{Regulated}
@@ -27,9 +29,18 @@ unfoldable pub askOf : Drive → Bool → Way → Drive
 askOf d automatic Neither = d
 askOf d automatic (To e) = Asked e 0 automatic
 
--- bits 19 and 20
-abbrev pub buttonsOf : Contacts → Buttons
-buttonsOf c = record { raise = c .«raise_button»; lower = c .«lower_button» }
+-- bits 19 and 20, the panel's; 02, ticket 7: "bit 21 chooses remote mode, bits 22 and 23 are the dispatcher's raise and lower"
+abbrev pub keysOf : Contacts → Keys
+keysOf c =
+    record {
+      panel = record { raise = c .«raise_button»; lower = c .«lower_button» };
+      dispatcher = record { raise = c .«remote_raise»; lower = c .«remote_lower» };
+      remote = c .remote;
+    }
+
+-- the mode's pair of buttons, and the press that is still remembered
+abbrev pub heardIn : Contacts → Memory → Heard
+heardIn c m = heardOf (keysOf c) (m .keys) (m .remembered)
 
 -- what rule 9 goes by; the drive "rested at tick start and still does"
 unfoldable pub situationOf : Contacts → Assessed → Blocks → Memory → Drive → Situation
@@ -42,9 +53,9 @@ situationOf c a b m d =
       blocks = b;
       wait = m .wait;
       repeat = m .repeat;
-      buttons = buttonsOf c;
-      before = m .buttons;
-      remembered = m .remembered;
+      buttons = heardIn c m .buttons;
+      before = heardIn c m .before;
+      remembered = heardIn c m .remembered;
     }
 
 unfoldable pub decisionOf : List ℕ → Contacts → Assessed → Blocks → Memory → Drive → Decided
@@ -66,4 +77,4 @@ dropsOf c f = isFault f || c .automatic || c .«local_drive»
 
 -- the press that is remembered after the tick; f is the fault as rule 7 left it
 unfoldable pub keptPressOf : Contacts → Fault → Memory → Way
-keptPressOf c f m = rememberedOf (restsOf (m .drive)) (dropsOf c f) (buttonsOf c) (m .buttons) (m .remembered)
+keptPressOf c f m = rememberedOf (restsOf (m .drive)) (dropsOf c f) (heardIn c m .buttons) (heardIn c m .before) (heardIn c m .remembered)

@@ -1,11 +1,13 @@
 // Rule 9, the wait and the command; the press that is remembered.
 ghost use mathlib.Core.Path.{_≡_};
-ghost use Rattle.acting.specs.Commanding.{askOf, buttonsOf, situationOf, regulatedOf, dropsOf, keptPressOf};
+ghost use Rattle.acting.specs.Commanding.{askOf, keysOf, heardIn, situationOf, regulatedOf, dropsOf, keptPressOf};
 use crate::judging;
 use blocks::Blocks;
 use command::Buttons;
 use command::Situation;
 use command::Wait;
+use command::pairs::Heard;
+use command::pairs::Keys;
 use drive::Drive;
 use fault::Fault;
 use input::Contacts;
@@ -27,13 +29,13 @@ fn ask(d: Drive, automatic: bool, command: Way) -> Drive
     }
 }
 
-// What of the record rule 9 goes by: the drive at tick start, the wait, the side of the last automatic command, the buttons and
-// the remembered press.
+// What of the record rule 9 goes by: the drive at tick start, the wait, the side of the last automatic command, the keys of the
+// previous tick and the remembered press.
 pub struct Memory {
     pub drive: Drive,
     pub wait: Wait,
     pub repeat: Way,
-    pub buttons: Buttons,
+    pub keys: Keys,
     pub remembered: Way,
 }
 
@@ -43,14 +45,31 @@ pub struct Regulated {
     pub repeat: Way,
 }
 
-// The buttons that are pressed on this tick.
-pub fn buttons_of(c: Contacts) -> Buttons
-    ensures { λ r. ⌜ r ≡ buttonsOf c ⌝ }
+// The keys of this tick.
+pub fn keys_of(c: Contacts) -> Keys
+    ensures { λ r. ⌜ r ≡ keysOf c ⌝ }
 {
-    Buttons {
-        raise: c.raise_button,
-        lower: c.lower_button,
+    Keys {
+        panel: Buttons {
+            raise: c.raise_button,
+            lower: c.lower_button,
+        },
+        dispatcher: Buttons {
+            raise: c.remote_raise,
+            lower: c.remote_lower,
+        },
+        remote: c.remote,
     }
+}
+
+// The mode's pair of buttons, and the press that is still remembered.
+fn hear(c: Contacts, m: Memory) -> Heard
+    ensures { λ r. ⌜ r ≡ heardIn c m ⌝ }
+{
+    let now = keys_of(c);
+    let before = m.keys;
+    let press = m.remembered;
+    command::pairs::hear(now, before, press)
 }
 
 fn situation(c: Contacts, a: Assessed, b: Blocks, m: Memory, d: Drive) -> Situation
@@ -63,9 +82,10 @@ fn situation(c: Contacts, a: Assessed, b: Blocks, m: Memory, d: Drive) -> Situat
     let side = judging::side_of(level);
     let wait = m.wait;
     let repeat = m.repeat;
-    let buttons = buttons_of(c);
-    let before = m.buttons;
-    let remembered = m.remembered;
+    let heard = hear(c, m);
+    let buttons = heard.buttons;
+    let before = heard.before;
+    let remembered = heard.remembered;
     Situation {
         resting: rested & rests,
         automatic: c.automatic,
@@ -123,8 +143,9 @@ pub fn remember(c: Contacts, f: Fault, m: Memory) -> Way
     let was = m.drive;
     let rested = drive::follow::rests(was);
     let dropped = drops(c, f);
-    let now = buttons_of(c);
-    let before = m.buttons;
-    let earlier = m.remembered;
+    let heard = hear(c, m);
+    let now = heard.buttons;
+    let before = heard.before;
+    let earlier = heard.remembered;
     command::manual::remember(rested, dropped, now, before, earlier)
 }

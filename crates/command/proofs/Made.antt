@@ -4,6 +4,7 @@ use mathlib.Core.Path.{_≡_}
 use mathlib.Core.Bool.{Bool, true, false, not, _&&_, _||_}
 use mathlib.Core.List.{List}
 use Prim.Native.Nat.{ℕ}
+use Rattle.common.specs.Choice.{choose}
 use Rattle.common.proofs.Cases.{yes, no, cases}
 use Rattle.slots.specs.Slots.{slot, t1, t2, t3, isContinuous}
 use Rattle.ways.specs.declared.Direction.{Direction}
@@ -12,11 +13,14 @@ use Rattle.ways.specs.declared.Way.the-variants.{Neither, To}
 use Rattle.ways.specs.Ways.{raises, lowers, isTo, otherOf, newerOf}
 use Rattle.blocks.specs.Blocked.{opposedOf}
 use Rattle.command.specs.declared.Buttons.{Buttons}
+use Rattle.command.specs.declared.pairs.Keys.{Keys}
+use Rattle.command.specs.declared.pairs.Heard.{Heard}
 use Rattle.command.specs.declared.Wait.{Wait}
 use Rattle.command.specs.declared.Wait.the-variants.{Idle, For}
 use Rattle.command.specs.declared.Situation.{Situation}
 use Rattle.command.specs.declared.Decided.{Decided}
 use Rattle.command.specs.Automatic.{idleOf, ticksOf, waitedOf, delayOf, waitOnOf, towardOf, sidedOf, keptOf, repeatOf}
+use Rattle.command.specs.Pairs.{pairOf, changedOf, heardOf}
 use Rattle.command.specs.Manual.{pressedOf, pressOf, soughtOf, grantedOf, manualOf, rememberedOf}
 
 -- the wait to a side
@@ -103,5 +107,14 @@ module _ (rested dropped : Bool) (now before : Buttons) (old r : Way) where
   unfolding rememberedOf
   remembered-newer p t q = rw (← p) (no _ _ _ _ t q)
 
+-- the mode's pair of buttons
+pub heard-made : (now before : Keys) (press : Way) {buttons held : Buttons} {changed : Bool} {still : Way} → buttons ≡ pairOf (now .remote) now
+    → held ≡ pairOf (now .remote) before
+    → changed ≡ changedOf now before
+    → still ≡ choose changed Neither press
+    → _≡_ {A = Heard} (record { buttons = buttons; before = held; remembered = still }) (heardOf now before press)
+unfolding heardOf
+heard-made now before press p q r s = rw (p, q, s, r)
+
 pub ruleset made =
-    (waited-idle, waited-for, delay-far, delay-repeat, delay-first, toward-blocked, toward-free, sided-neither, sided-to, kept-not, kept-on, repeat-automatic, sought-made, manual-pressed, manual-idle, remembered-none, remembered-newer, cases)
+    (waited-idle, waited-for, delay-far, delay-repeat, delay-first, toward-blocked, toward-free, sided-neither, sided-to, kept-not, kept-on, repeat-automatic, sought-made, manual-pressed, manual-idle, remembered-none, remembered-newer, heard-made, cases)

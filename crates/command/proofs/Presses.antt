@@ -6,6 +6,7 @@ use mathlib.Core.List.{List}
 use mathlib.Core.Logic.{⊎-elim}
 use Prim.Native.Nat.{ℕ}
 use Rattle.common.specs.Choice.{choose}
+use Rattle.common.proofs.Cases.{either}
 use Rattle.common.proofs.Joined.{split}
 use Rattle.ways.specs.declared.Direction.{Direction}
 use Rattle.ways.specs.declared.Direction.the-variants.{Raise, Lower}
@@ -98,8 +99,13 @@ module _ (s : List ℕ) (x : Situation) (d : Direction) where
   pub real-press-wins : pressOf x ≡ To d → decidedOf s x ≡ decidedOf s (forgotten x)
   real-press-wins e = ⊎-elim (λ a. automatic-alone s x _ _ _ a) (λ a. same-manual s x _ _ _ a (sought-real e)) (split (x .automatic))
 
+-- neither a press nor a remembered one: nothing begins
+pub none-begins : (s : List ℕ) (x : Situation) → x .automatic ≡ false → pressOf x ≡ Neither → x .remembered ≡ Neither → decidedOf s x ≡ idleOf
+unfolding manualOf soughtOf newerOf grantedOf choose
+none-begins s x a n e = in-manual s x a ∙ rw (n, e) (sym (either _ _ _ (x .resting) refl refl))
+
 -- buttons that are all held over from the previous tick are no press
-none-new : (r l r′ l′ : Bool) → (r ≡ true → r′ ≡ true) → (l ≡ true → l′ ≡ true)
+pub none-new : (r l r′ l′ : Bool) → (r ≡ true → r′ ≡ true) → (l ≡ true → l′ ≡ true)
     → pressedOf (record { raise = r; lower = l }) (record { raise = r′; lower = l′ }) ≡ Neither
 unfolding pressedOf choose
 none-new false false r′ l′ p q = refl

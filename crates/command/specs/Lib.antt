@@ -1,3 +1,4 @@
 pub mod Deciding
 pub mod Automatic
+pub mod Pairs
 pub mod Manual

@@ -5,6 +5,7 @@ ghost use Rattle.command.specs.Deciding.{decidedOf};
 
 pub mod automatic;
 pub mod manual;
+pub mod pairs;
 
 use blocks::Blocks;
 use slots::SLOTS;
@@ -17,15 +18,15 @@ pub enum Wait {
     For { direction: Direction, ticks: u32 },
 }
 
-// Which of the two buttons are pressed.
+// Which buttons of a pair are pressed.
 pub struct Buttons {
     pub raise: bool,
     pub lower: bool,
 }
 
 // What rule 9 goes by. `resting`: the drive rested at tick start and still does. `side`: the command that the deviation asks
-// for. `far`: U is above U_set5. `repeat`: the side of the last automatic command, while T2 goes by it. `before`: the buttons
-// on the previous tick. `remembered`: the press that was made while the drive ran.
+// for. `far`: U is above U_set5. `repeat`: the side of the last automatic command, while T2 goes by it. `buttons`, `before`: those of
+// the mode's pair on this tick and on the previous one. `remembered`: the press that was made while the drive ran.
 pub struct Situation {
     pub resting: bool,
     pub automatic: bool,

@@ -3,10 +3,17 @@
 use mathlib.Core.Path.{_≡_, refl, sym, ap, _∙_}
 use mathlib.Core.Bool.{Bool, true, false, _&&_}
 use Prim.Native.Nat.{ℕ}
+use mathlib.Core.List.{List}
 use lib.ListN.{length}
 use Rattle.common.specs.Choice.{choose}
 use Rattle.common.proofs.Cases.{yes, no}
 use Rattle.common.proofs.Joined.{and-left, and-right}
+use Rattle.organ.specs.declared.Organ.{Organ}
+use Rattle.drive.specs.declared.Drive.{Drive}
+use Rattle.fault.specs.declared.Fault.{Fault}
+use Rattle.ways.specs.declared.Way.{Way}
+use Rattle.command.specs.declared.Wait.{Wait}
+use Rattle.command.specs.declared.pairs.Keys.{Keys}
 use Rattle.record.specs.declared.Regulator.{Regulator}
 use Rattle.record.specs.Starting.{zerosOf}
 use Rattle.image.specs.declared.Image.{Image}
@@ -14,17 +21,18 @@ use Rattle.image.specs.declared.FromImage.{FromImage}
 use Rattle.coding.specs.declared.DriveImage.{DriveImage}
 use Rattle.coding.specs.declared.WaitImage.{WaitImage}
 use Rattle.image.specs.declared.images.WayNumbers.{WayNumbers}
+use Rattle.image.specs.declared.images.KeyNumbers.{KeyNumbers}
 use Rattle.image.specs.declared.places.OrganNumbers.{OrganNumbers}
-use Rattle.coding.specs.Numbers.{bitOf, isBit, isWay, faultNumber, isFault, driveImage, isDrive, waitImage, isWait}
-use Rattle.image.specs.Places.{organNumbers, areMarks}
-use Rattle.image.specs.Images.{wayNumbers, imageOf, isRecord, stateOf, takenOf, recordOf}
+use Rattle.coding.specs.Numbers.{isBit, isWay, wayOf, faultNumber, isFault, faultOf, driveImage, driveOf, isDrive, waitImage, waitOf, isWait}
+use Rattle.image.specs.Places.{organNumbers, organsOf, areMarks}
+use Rattle.image.specs.Images.{wayNumbers, keyNumbers, imageOf, areKeys, isRecord, keysOf, stateOf, takenOf, recordOf}
 use Rattle.coding.proofs.Cases.{bit-back, bit-is, bit-same, way-back, way-is, way-same, fault-back, fault-is, fault-same, drive-back, drive-is, drive-same, wait-back, wait-is, wait-same}
 use Rattle.image.proofs.Organs.{organs-back, organs-are, marks-same, counts-same}
 
 -- ---- from the record
 
 pub state-back : (r : Regulator) → stateOf (imageOf r) ≡ r
-unfolding stateOf imageOf wayNumbers
+unfolding stateOf keysOf imageOf wayNumbers keyNumbers
 state-back r =
     rw (
       organs-back (r .organs),
@@ -33,13 +41,16 @@ state-back r =
       wait-back (r .wait),
       way-back (r .repeat),
       way-back (r .last),
-      bit-back (r .buttons .raise),
-      bit-back (r .buttons .lower),
+      bit-back (r .keys .panel .raise),
+      bit-back (r .keys .panel .lower),
+      bit-back (r .keys .dispatcher .raise),
+      bit-back (r .keys .dispatcher .lower),
+      bit-back (r .keys .remote),
       way-back (r .remembered),
     )
 
 pub image-is : (r : Regulator) → isRecord (imageOf r) ≡ true
-unfolding isRecord imageOf wayNumbers
+unfolding isRecord areKeys imageOf wayNumbers keyNumbers
 image-is r =
     rw (
       organs-are (r .organs),
@@ -49,8 +60,11 @@ image-is r =
       way-is (r .repeat),
       way-is (r .last),
       way-is (r .remembered),
-      bit-is (r .buttons .raise),
-      bit-is (r .buttons .lower),
+      bit-is (r .keys .panel .raise),
+      bit-is (r .keys .panel .lower),
+      bit-is (r .keys .dispatcher .raise),
+      bit-is (r .keys .dispatcher .lower),
+      bit-is (r .keys .remote),
     )
 
 pub back : (r : Regulator) → recordOf (imageOf r) ≡ takenOf r
@@ -58,13 +72,41 @@ unfolding recordOf choose
 back r = rw (image-is r, state-back r)
 
 -- ---- from the image
+
+pub keys-same : (m : Image) → areKeys m ≡ true
+    → _≡_ {A = KeyNumbers}
+    (keyNumbers (keysOf m))
+    (record {
+      «raise_button» = m .«raise_button»;
+      «lower_button» = m .«lower_button»;
+      «remote_raise» = m .«remote_raise»;
+      «remote_lower» = m .«remote_lower»;
+      remote = m .remote;
+    })
+unfolding areKeys keyNumbers keysOf
+keys-same m p =
+    let raise = isBit (m .«raise_button») in
+    let lower = isBit (m .«lower_button») in
+    let far-raise = isBit (m .«remote_raise») in
+    let far-lower = isBit (m .«remote_lower») in
+    let remote = isBit (m .remote) in
+    let pairs : (raise && lower && (far-raise && far-lower)) ≡ true = and-left _ remote p in
+    let panel : (raise && lower) ≡ true = and-left _ (far-raise && far-lower) pairs in
+    let dispatcher : (far-raise && far-lower) ≡ true = and-right (raise && lower) _ pairs in
+    rw (
+      bit-same _ (and-left raise lower panel),
+      bit-same _ (and-right raise lower panel),
+      bit-same _ (and-left far-raise far-lower dispatcher),
+      bit-same _ (and-right far-raise far-lower dispatcher),
+      bit-same _ (and-right (raise && lower && (far-raise && far-lower)) remote p),
+    )
+
 module _ (m : Image) (p : isRecord m ≡ true) where
   -- what the test says of each part
   abbrev Parts : Type 0
   Parts =
       (areMarks (m .«organ_marks») ≡ true) × (isDrive (m .drive) ≡ true) × (isFault (m .fault) ≡ true) × (isWait (m .wait) ≡ true)
-      × (isWay (m .repeat) ≡ true) × (isWay (m .last) ≡ true) × (isWay (m .remembered) ≡ true) × (isBit (m .«raise_button») ≡ true)
-      × (isBit (m .«lower_button») ≡ true)
+      × (isWay (m .repeat) ≡ true) × (isWay (m .last) ≡ true) × (isWay (m .remembered) ≡ true) × (areKeys m ≡ true)
 
   parts : Parts
   unfolding isRecord
@@ -76,10 +118,8 @@ module _ (m : Image) (p : isRecord m ≡ true) where
       let repeat = isWay (m .repeat) in
       let last = isWay (m .last) in
       let remembered = isWay (m .remembered) in
-      let raise = isBit (m .«raise_button») in
-      let lower = isBit (m .«lower_button») in
-      let buttons : (raise && lower) ≡ true = and-right (marks && drive && fault && wait && (repeat && last && remembered)) (raise && lower) p in
-      let rest : (marks && drive && fault && wait && (repeat && last && remembered)) ≡ true = and-left _ (raise && lower) p in
+      let keys = areKeys m in
+      let rest : (marks && drive && fault && wait && (repeat && last && remembered)) ≡ true = and-left _ keys p in
       let ways : (repeat && last && remembered) ≡ true = and-right (marks && drive && fault && wait) (repeat && last && remembered) rest in
       let sides : (repeat && last) ≡ true = and-left _ remembered ways in
       let waits : (marks && drive && fault && wait) ≡ true = and-left _ (repeat && last && remembered) rest in
@@ -92,8 +132,7 @@ module _ (m : Image) (p : isRecord m ≡ true) where
         and-left repeat last sides,
         and-right repeat last sides,
         and-right (repeat && last) remembered ways,
-        and-left raise lower buttons,
-        and-right raise lower buttons,
+        and-right (marks && drive && fault && wait && (repeat && last && remembered)) keys p,
       )
 
   pub image-same : length (m .«organ_marks») ≡ length (m .«organ_counts») → imageOf (stateOf m) ≡ m
@@ -108,15 +147,15 @@ module _ (m : Image) (p : isRecord m ≡ true) where
         way-same _ (parts .4),
         way-same _ (parts .5),
         way-same _ (parts .6),
-        bit-same _ (parts .7),
-        bit-same _ (parts .8),
+        keys-same m (parts .7),
       )
 
 -- ---- over plain values, as the functions ask it
 
-module _ (r : Regulator) {n : OrganNumbers} {d : DriveImage} {f : ℕ} {w : WaitImage} {u : WayNumbers} where
+module _ (r : Regulator) {n : OrganNumbers} {d : DriveImage} {f : ℕ} {w : WaitImage} {u : WayNumbers} {k : KeyNumbers} where
   pub image-made : n ≡ organNumbers (r .organs) → d ≡ driveImage (r .drive) → f ≡ faultNumber (r .latch .fault) → w ≡ waitImage (r .wait)
       → u ≡ wayNumbers r
+      → k ≡ keyNumbers (r .keys)
       → _≡_ {A = Image}
       (record {
         settings = r .settings;
@@ -130,13 +169,40 @@ module _ (r : Regulator) {n : OrganNumbers} {d : DriveImage} {f : ℕ} {w : Wait
         last = u .last;
         «counted_tap» = r .«counted_tap»;
         operations = r .operations;
-        «raise_button» = bitOf (r .buttons .raise);
-        «lower_button» = bitOf (r .buttons .lower);
+        «raise_button» = k .«raise_button»;
+        «lower_button» = k .«lower_button»;
         remembered = u .remembered;
+        «remote_raise» = k .«remote_raise»;
+        «remote_lower» = k .«remote_lower»;
+        remote = k .remote;
       })
       (imageOf r)
   unfolding imageOf
-  image-made en ed ef ew eu = rw (en, ed, ef, ew, eu)
+  image-made en ed ef ew eu ek = rw (en, ed, ef, ew, eu, ek)
+
+module _ (m : Image) {os : List Organ} {d : Drive} {f : Fault} {w : Wait} {again last press : Way} {k : Keys} where
+  pub state-made : os ≡ organsOf (m .«organ_marks») (m .«organ_counts») → d ≡ driveOf (m .drive) → f ≡ faultOf (m .fault) → w ≡ waitOf (m .wait)
+      → again ≡ wayOf (m .repeat)
+      → last ≡ wayOf (m .last)
+      → press ≡ wayOf (m .remembered)
+      → k ≡ keysOf m
+      → _≡_ {A = Regulator}
+      (record {
+        settings = m .settings;
+        organs = os;
+        drive = d;
+        latch = record { fault = f; age = m .«fault_age» };
+        wait = w;
+        repeat = again;
+        last = last;
+        «counted_tap» = m .«counted_tap»;
+        operations = m .operations;
+        keys = k;
+        remembered = press;
+      })
+      (stateOf m)
+  unfolding stateOf
+  state-made eo ed ef ew ea el ep ek = rw (eo, ed, ef, ew, ea, el, ep, ek)
 
 pub imaged : (r : Regulator) {m : Image} → m ≡ imageOf r → (m ≡ imageOf r) × (recordOf m ≡ takenOf r)
 imaged r e = (e, rw e (back r))

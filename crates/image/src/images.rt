@@ -1,10 +1,11 @@
 // The image of a record, and the record of an image.
 ghost use mathlib.Core.Path.{_≡_};
 ghost use mathlib.Core.Bool.{true};
-ghost use Rattle.image.specs.Images.{wayNumbers, imageOf, isRecord, stateOf, takenOf, recordOf};
+ghost use Rattle.image.specs.Images.{wayNumbers, keyNumbers, imageOf, areKeys, isRecord, keysOf, stateOf, takenOf, recordOf};
 use crate::FromImage;
 use crate::Image;
 use command::Buttons;
+use command::pairs::Keys;
 use fault::Latch;
 use record::Regulator;
 
@@ -31,6 +32,29 @@ fn way_numbers(r: Regulator) -> WayNumbers
     }
 }
 
+// The keys of the previous tick, in numbers.
+struct KeyNumbers {
+    raise_button: u32,
+    lower_button: u32,
+    remote_raise: u32,
+    remote_lower: u32,
+    remote: u32,
+}
+
+fn key_numbers(k: Keys) -> KeyNumbers
+    ensures { λ n. ⌜ n ≡ keyNumbers k ⌝ }
+{
+    let panel = k.panel;
+    let dispatcher = k.dispatcher;
+    KeyNumbers {
+        raise_button: panel.raise as u32,
+        lower_button: panel.lower as u32,
+        remote_raise: dispatcher.raise as u32,
+        remote_lower: dispatcher.lower as u32,
+        remote: k.remote as u32,
+    }
+}
+
 // The one image of a record. It gives the record back.
 pub fn image_of(r: Regulator) -> Image
     ensures each { λ m. ⌜ m ≡ imageOf r ⌝ }
@@ -42,7 +66,7 @@ pub fn image_of(r: Regulator) -> Image
     let latch = r.latch;
     let f = latch.fault;
     let w = r.wait;
-    let buttons = r.buttons;
+    let k = r.keys;
     let numbers = crate::places::organ_numbers(organs);
     let marks = numbers.marks;
     let counts = numbers.counts;
@@ -50,6 +74,7 @@ pub fn image_of(r: Regulator) -> Image
     let fault = coding::fault_number(f);
     let wait = coding::wait_image(w);
     let ways = way_numbers(r);
+    let keys = key_numbers(k);
     Image {
         settings: settings,
         organ_marks: marks,
@@ -62,10 +87,22 @@ pub fn image_of(r: Regulator) -> Image
         last: ways.last,
         counted_tap: r.counted_tap,
         operations: r.operations,
-        raise_button: buttons.raise as u32,
-        lower_button: buttons.lower as u32,
+        raise_button: keys.raise_button,
+        lower_button: keys.lower_button,
         remembered: ways.remembered,
+        remote_raise: keys.remote_raise,
+        remote_lower: keys.remote_lower,
+        remote: keys.remote,
     }
+}
+
+// Whether the keys' numbers are 0 or 1.
+fn are_keys(m: Image) -> bool
+    ensures { λ b. ⌜ b ≡ areKeys m ⌝ }
+{
+    let panel = (m.raise_button <= 1) & (m.lower_button <= 1);
+    let dispatcher = (m.remote_raise <= 1) & (m.remote_lower <= 1);
+    panel & dispatcher & (m.remote <= 1)
 }
 
 // Whether an image is some record's.
@@ -79,8 +116,24 @@ fn is_record(m: Image) -> bool
     let drive = coding::is_drive(d);
     let wait = coding::is_wait(w);
     let ways = (m.repeat <= 2) & (m.last <= 2) & (m.remembered <= 2);
-    let buttons = (m.raise_button <= 1) & (m.lower_button <= 1);
-    marks & drive & (m.fault <= 4) & wait & ways & buttons
+    let keys = are_keys(m);
+    marks & drive & (m.fault <= 4) & wait & ways & keys
+}
+
+fn keys_of(m: Image) -> Keys
+    ensures { λ k. ⌜ k ≡ keysOf m ⌝ }
+{
+    Keys {
+        panel: Buttons {
+            raise: m.raise_button == 1,
+            lower: m.lower_button == 1,
+        },
+        dispatcher: Buttons {
+            raise: m.remote_raise == 1,
+            lower: m.remote_lower == 1,
+        },
+        remote: m.remote == 1,
+    }
 }
 
 // The record whose image it is.
@@ -99,6 +152,7 @@ fn state_of(m: Image) -> Regulator
     let repeat = coding::way_of(m.repeat);
     let last = coding::way_of(m.last);
     let remembered = coding::way_of(m.remembered);
+    let keys = keys_of(m);
     Regulator {
         settings: settings,
         organs: organs,
@@ -112,10 +166,7 @@ fn state_of(m: Image) -> Regulator
         last: last,
         counted_tap: m.counted_tap,
         operations: m.operations,
-        buttons: Buttons {
-            raise: m.raise_button == 1,
-            lower: m.lower_button == 1,
-        },
+        keys: keys,
         remembered: remembered,
     }
 }

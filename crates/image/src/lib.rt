@@ -10,7 +10,7 @@ use record::Regulator;
 use slots::SLOTS;
 
 // `fault`: 0 none, 1 run-away, 2 not started, 3 long, 4 fast. `repeat`, `last`, `remembered`: 0 none, 1 raise, 2 lower. A mark
-// and a button are 0 or 1.
+// and a button are 0 or 1, and so is `remote`, the mode of the previous tick; `raise_button` and `lower_button` are the panel's.
 #[repr(C)]
 pub struct Image {
     pub settings: [u32; SLOTS],
@@ -27,6 +27,9 @@ pub struct Image {
     pub raise_button: u32,
     pub lower_button: u32,
     pub remembered: u32,
+    pub remote_raise: u32,
+    pub remote_lower: u32,
+    pub remote: u32,
 }
 
 // What an image gives: its record, or, where it is no record's image, nothing and a record of zeros.

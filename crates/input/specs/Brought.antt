@@ -1,4 +1,4 @@
--- What a tick brings (01, 'What a tick brings'). Definitions only.
+-- What a tick brings (01, 'What a tick brings'; 02, ticket 7). Definitions only.
 use Prim.Native.Nat.{ℕ, _/_, _%_, _^_}
 use mathlib.Core.Bool.{Bool, true, false}
 use lib.Dec.{eqb}
@@ -13,7 +13,7 @@ use Rattle.input.specs.declared.Readings.{Readings}
 abbrev pub bitOf : ℕ → ℕ → Bool
 bitOf n i = eqb (n / 2 ^ i % 2) 1
 
--- "contacts, one 32-bit number, by bit"
+-- "contacts, one 32-bit number, by bit"; 02, ticket 7: "bit 21 chooses remote mode, bits 22 and 23 are the dispatcher's raise and lower"
 abbrev pub contactsOf : ℕ → Contacts
 contactsOf n =
     record {
@@ -38,6 +38,9 @@ contactsOf n =
       «u_supp4» = bitOf n 18;
       «raise_button» = bitOf n 19;
       «lower_button» = bitOf n 20;
+      remote = bitOf n 21;
+      «remote_raise» = bitOf n 22;
+      «remote_lower» = bitOf n 23;
     }
 
 -- "40 × k A": a 5 A module has five times the range of a 1 A one

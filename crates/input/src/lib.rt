@@ -42,6 +42,9 @@ pub struct Contacts {
     pub u_supp4: bool,
     pub raise_button: bool,
     pub lower_button: bool,
+    pub remote: bool,
+    pub remote_raise: bool,
+    pub remote_lower: bool,
 }
 
 // The six readings as they count, 3U0 being `u0`.
@@ -54,7 +57,7 @@ pub struct Readings {
     pub i_coupler: Measured,
 }
 
-// The bits of the contacts' number; those from 21 on are ignored.
+// The bits of the contacts' number; those from 24 on are ignored.
 pub fn decode_contacts(n: u32) -> Contacts
     ensures { λ r. ⌜ r ≡ contactsOf n ⌝ }
 {
@@ -80,6 +83,9 @@ pub fn decode_contacts(n: u32) -> Contacts
         u_supp4: (n >> 18) % 2 == 1,
         raise_button: (n >> 19) % 2 == 1,
         lower_button: (n >> 20) % 2 == 1,
+        remote: (n >> 21) % 2 == 1,
+        remote_raise: (n >> 22) % 2 == 1,
+        remote_lower: (n >> 23) % 2 == 1,
     }
 }
 

@@ -1,4 +1,4 @@
--- The record that a sheet gives (01, 'The setting sheet' and rule 1). Definitions only.
+-- The record that a sheet gives (01, 'The setting sheet' and rule 1; 02, ticket 7). Definitions only.
 use Prim.Native.Nat.{ℕ}
 use mathlib.Core.Bool.{Bool, true, false}
 use mathlib.Core.List.{List}
@@ -13,8 +13,14 @@ use Rattle.drive.specs.declared.Drive.the-variants.{Resting}
 use Rattle.fault.specs.declared.Fault.the-variants.{NoFault}
 use Rattle.ways.specs.declared.Way.the-variants.{Neither}
 use Rattle.command.specs.declared.Wait.the-variants.{Idle}
+use Rattle.command.specs.declared.pairs.Keys.{Keys}
 use Rattle.record.specs.declared.Regulator.{Regulator}
 use Rattle.record.specs.declared.starting.Started.{Started}
+
+-- local mode, and all four buttons pressed or none
+abbrev pub localKeys : Bool → Keys
+localKeys pressed =
+    record { panel = record { raise = pressed; lower = pressed }; dispatcher = record { raise = pressed; lower = pressed }; remote = false }
 
 -- a record with nothing going on
 abbrev idleOf : List ℕ → ℕ → ℕ → Bool → Regulator
@@ -29,12 +35,13 @@ idleOf s tap operations pressed =
       last = Neither;
       «counted_tap» = tap;
       operations = operations;
-      buttons = record { raise = pressed; lower = pressed };
+      keys = localKeys pressed;
       remembered = Neither;
     }
 
 -- "fresh: at rest, no organ marked, nothing latched or waiting, no last direction or automatic command, counted tap N_pos, operations
--- N_start, both buttons remembered as pressed"
+-- N_start, both buttons remembered as pressed"; 02, ticket 7: each pair "pressed when fresh". No press is remembered, so that no tick goes by
+-- the mode of a fresh record: it is local
 unfoldable pub freshOf : List ℕ → Regulator
 freshOf s = idleOf s (slot s nPos) (slot s nStart) true
 

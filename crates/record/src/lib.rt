@@ -2,16 +2,16 @@
 pub mod limits;
 pub mod starting;
 
-use command::Buttons;
 use command::Wait;
+use command::pairs::Keys;
 use drive::Drive;
 use fault::Latch;
 use organ::Organ;
 use slots::SLOTS;
 use ways::Way;
 
-// `repeat` is the side of the last automatic command, while T2 goes by it; `last` is the last direction; `buttons` are those
-// that were pressed on the previous tick; `remembered` is the press that was made while the drive ran.
+// `repeat` is the side of the last automatic command, while T2 goes by it; `last` is the last direction; `keys` are those
+// of the previous tick, its mode included; `remembered` is the press that was made while the drive ran.
 pub struct Regulator {
     pub settings: [u32; SLOTS],
     pub organs: [Organ; 7],
@@ -22,6 +22,6 @@ pub struct Regulator {
     pub last: Way,
     pub counted_tap: u32,
     pub operations: u32,
-    pub buttons: Buttons,
+    pub keys: Keys,
     pub remembered: Way,
 }

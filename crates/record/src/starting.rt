@@ -3,11 +3,12 @@ ghost use mathlib.Core.Path.{_≡_};
 ghost use mathlib.Core.Bool.{true};
 ghost use mathlib.Core.Logic.{_↔_};
 ghost use Rattle.sheet.specs.Settings.{Settings};
-ghost use Rattle.record.specs.Starting.{freshOf, zerosOf, startedOf, repliedOf, startOf};
+ghost use Rattle.record.specs.Starting.{localKeys, freshOf, zerosOf, startedOf, repliedOf, startOf};
 ghost use Rattle.record.specs.Limits.{withinOf};
 use crate::Regulator;
 use command::Buttons;
 use command::Wait;
+use command::pairs::Keys;
 use drive::Drive;
 use fault::Fault;
 use fault::Latch;
@@ -24,8 +25,23 @@ pub struct Started {
     pub state: Regulator,
 }
 
+// Local mode, and all four buttons pressed or none.
+fn local_keys(pressed: bool) -> Keys
+    ensures { λ k. ⌜ k ≡ localKeys pressed ⌝ }
+{
+    let buttons = Buttons {
+        raise: pressed,
+        lower: pressed,
+    };
+    Keys {
+        panel: buttons,
+        dispatcher: buttons,
+        remote: false,
+    }
+}
+
 // At rest, no organ marked, nothing latched or waiting, no last direction or automatic command, the counted tap and the
-// operations of the sheet, both buttons remembered as pressed.
+// operations of the sheet, local mode, both buttons of each pair remembered as pressed.
 pub fn fresh(settings: [u32; SLOTS]) -> Regulator
     ensures { λ r. ⌜ r ≡ freshOf settings ⌝ }
 {
@@ -36,6 +52,7 @@ pub fn fresh(settings: [u32; SLOTS]) -> Regulator
     let organs = [cleared; 7];
     let counted_tap = settings[N_POS];
     let operations = settings[N_START];
+    let keys = local_keys(true);
     Regulator {
         settings: settings,
         organs: organs,
@@ -49,10 +66,7 @@ pub fn fresh(settings: [u32; SLOTS]) -> Regulator
         last: Way::Neither,
         counted_tap: counted_tap,
         operations: operations,
-        buttons: Buttons {
-            raise: true,
-            lower: true,
-        },
+        keys: keys,
         remembered: Way::Neither,
     }
 }
@@ -67,6 +81,7 @@ pub fn zeros() -> Regulator
     };
     let settings = [0u32; SLOTS];
     let organs = [cleared; 7];
+    let keys = local_keys(false);
     Regulator {
         settings: settings,
         organs: organs,
@@ -80,10 +95,7 @@ pub fn zeros() -> Regulator
         last: Way::Neither,
         counted_tap: 0,
         operations: 0,
-        buttons: Buttons {
-            raise: false,
-            lower: false,
-        },
+        keys: keys,
         remembered: Way::Neither,
     }
 }

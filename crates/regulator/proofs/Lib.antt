@@ -4,6 +4,7 @@ pub mod Made
 pub mod Moves
 pub mod Next
 pub mod Presses
+pub mod TwoPairs
 pub mod Rows
 pub mod Serve
 pub mod Shown

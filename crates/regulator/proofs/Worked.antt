@@ -43,6 +43,7 @@ use Rattle.busbar.specs.Voltage as busbar-voltage
 use Rattle.command.specs.Automatic as command-automatic
 use Rattle.command.specs.Deciding as command-deciding
 use Rattle.command.specs.Manual as command-manual
+use Rattle.command.specs.Pairs as command-pairs
 use Rattle.record.specs.Limits as record-limits
 use Rattle.record.specs.Starting as record-starting
 use Rattle.acting.specs.Accounting as acting-accounting
@@ -99,7 +100,7 @@ freshBut wait operations =
       last = r .last;
       «counted_tap» = r .«counted_tap»;
       operations = operations;
-      buttons = r .buttons;
+      keys = r .keys;
       remembered = r .remembered;
     }
 
@@ -140,6 +141,25 @@ heldPressRows =
     (0x000001, (0, 0, 0)) ∷ (0x080001, (1, 0, 1)) ∷ (0x000001, (1, 0, 1)) ∷ (0x100001, (1, 0, 1))
     ∷ (replicate 21 (0x180001, (1, 0, 1)) ++ ((0x180001, (0, 0, 0)) ∷ (0x180001, (0, 1, 1)) ∷ (0x180001, (0, 1, 1)) ∷ []))
 
+-- 02, ticket 7, bit 21 being remote mode: the dispatcher's raise does nothing in local mode, nor held as the mode changes; the panel's raise,
+-- held, neither commands in remote mode nor stops the dispatcher's lower. In its move the dispatcher's raise is remembered, and carried
+-- out in remote mode. In the next move a change to local mode and back drops it. The panel's raise, pressed on the very tick on which the
+-- mode changes, commands; in its move the dispatcher's lower, pressed so, is remembered in place of the panel's raise, and dropped by a
+-- change on the tick on which it would be carried out.
+abbrev pairRows : List Press
+pairRows =
+    (0x000001, (0, 0, 0)) ∷ (0x400001, (0, 0, 0)) ∷ (0x600001, (0, 0, 0)) ∷ (0x280001, (0, 0, 0)) ∷ (0xA80001, (0, 1, 1))
+    ∷ (0x200003, (0, 0, 1)) ∷ (0x600003, (0, 0, 1)) ∷ (0x200003, (0, 0, 1)) ∷ (0x200001, (0, 0, 0)) ∷ (0x200001, (1, 0, 1))
+    ∷ (0x200003, (0, 0, 1)) ∷ (0x600003, (0, 0, 1)) ∷ (0x000003, (0, 0, 1)) ∷ (0x200001, (0, 0, 0)) ∷ (0x200001, (0, 0, 0))
+    ∷ (0x080001, (1, 0, 1)) ∷ (0x000003, (0, 0, 1)) ∷ (0x080003, (0, 0, 1)) ∷ (0xA00003, (0, 0, 1)) ∷ (0x200001, (0, 0, 0))
+    ∷ (0x000001, (0, 0, 0)) ∷ (0x200001, (0, 0, 0)) ∷ []
+
+-- the same two ways without a switching contact: the dispatcher's lower is carried out with both of the panel's buttons held
+abbrev heldPairRows : List Press
+heldPairRows =
+    (0x200001, (0, 0, 0)) ∷ (0x600001, (1, 0, 1)) ∷ (0xA00001, (1, 0, 1))
+    ∷ (replicate 22 (0x380001, (1, 0, 1)) ++ ((0x380001, (0, 0, 0)) ∷ (0x380001, (0, 1, 1)) ∷ (0x180001, (0, 1, 1)) ∷ []))
+
 pub record Given : Type 0 where
   pub early : ticksFrom (restsOf (fresh .drive)) fresh (served 4 5) ≡ servedList 4 5
   pub bound : ticksFrom (restsOf (fresh .drive)) fresh (served 21 24) ≡ servedList 21 24
@@ -151,13 +171,15 @@ pub record Given : Type 0 where
   pub heldHigh : ticksFrom (restsOf (freshHeld .drive)) freshHeld (replicate 21 highClosed) ≡ heldHighList
   pub pressed : commandsOf fresh (pressTicks pressRows) ≡ map (λ p. p .1) pressRows
   pub heldPressed : commandsOf freshHeld (pressTicks heldPressRows) ≡ map (λ p. p .1) heldPressRows
+  pub paired : commandsOf fresh (pressTicks pairRows) ≡ map (λ p. p .1) pairRows
+  pub heldPaired : commandsOf freshHeld (pressTicks heldPairRows) ≡ map (λ p. p .1) heldPairRows
   pub onFresh : opening fresh ≡ freshOpening
   pub onWaiting : opening waiting ≡ waitingOpening
   pub onHeld : opening freshHeld ≡ heldOpening
   pub onOutside : opening outside ≡ outsideOpening
 
 pub given : Given
-unfolding ofBits common-choice.choose common-places.zip measure-readings.goodOf measure-readings.heldOf measure-readings.measuredOf sheet-sheet.firstFrom sheet-sheet.takenIn sheet-sheet.firstOutOfRange sheet-sheet.judgeOf sheet-sheet.passesOf sheet-table.rowIn sheet-table.rowOf sheet-table.moduleFactor sheet-table.factorOf sheet-table.lowOf sheet-table.highOf sheet-table.stepOf sheet-table.takenOf sheet-table.takenBy organ-limits.organWithin common-places.every organ-limits.organsWithin organ-organs.organOf organ-organs.tripOf drive-follow.ownOf drive-follow.restOf drive-follow.askedOf drive-follow.movingOf drive-follow.supervisedOf drive-follow.followOf drive-follow.withinOf drive-hold.endsOf drive-hold.automaticOf drive-hold.manualOf drive-hold.heldFrom drive-hold.holdOf drive-hold.withinOf fault-latches.resetOf fault-latches.laterOf fault-latches.ageOf fault-latches.latchedOf drive-shown.onOf ways-ways.newerOf input-brought.readingsOf tap-counted.upOf tap-counted.downOf tap-counted.stepOf tap-counted.movedOf tap-counted.countedOf tap-positions.rangedOf tap-positions.bcdOf tap-positions.positionOf tap-sliding.standsIn tap-sliding.slidingOf blocks-blocked.endOf blocks-blocked.organsAutomaticOf blocks-blocked.anyTripOf blocks-blocked.tapLostOf blocks-blocked.blocksOf busbar-deviation.supplyOf busbar-deviation.lowOf busbar-deviation.highOf busbar-deviation.bandOf busbar-deviation.levelOf busbar-deviation.farAbove busbar-section.sectionOf busbar-voltage.goodOf busbar-voltage.both busbar-voltage.currentOf busbar-voltage.dropOf busbar-voltage.voltageDrop busbar-voltage.voltageOf command-automatic.ticksOf command-automatic.waitedOf command-automatic.delayOf command-automatic.waitOnOf command-automatic.towardOf command-automatic.sidedOf command-automatic.keptOf command-automatic.repeatOf command-deciding.decidedOf command-manual.pressedOf command-manual.soughtOf command-manual.grantedOf command-manual.manualOf command-manual.rememberedOf record-limits.ticksOf record-limits.delaysOf record-limits.kindWithin record-limits.motionWithin record-limits.pressWithin record-limits.countsWithin record-limits.withinOf record-starting.freshOf acting-accounting.oneMoreOf acting-accounting.operationsOf acting-accounting.accountedOf sensing-assessing.uOf sensing-assessing.assessedOf acting-judging.sideOf acting-judging.blockedOf acting-commanding.askOf acting-commanding.situationOf acting-commanding.decisionOf acting-commanding.regulatedOf acting-commanding.dropsOf acting-commanding.keptPressOf sensing-observing.observedOf sensing-protecting.amountOf sensing-protecting.organInputOf sensing-protecting.organInputsOf sensing-protecting.protectedOf showing.countedOf showing.signalsOf showing.fieldsOf showing.outputsOf acting-supervising.contactOf acting-supervising.holdingOf acting-supervising.clearedOf acting-supervising.followedOf acting-supervising.supervisedOf regulator-ticks.observedIn regulator-ticks.protectedIn regulator-ticks.assessedIn regulator-ticks.sensedOf regulator-ticks.supervisedIn regulator-ticks.blockedIn regulator-ticks.regulatedIn regulator-ticks.rememberedIn regulator-ticks.accountedIn regulator-ticks.actedOf regulator-ticks.nextOf regulator-ticks.endOf regulator-ticks.ranOf regulator-ticks.isOut regulator-ticks.outOf regulator-ticks.refusedOf regulator-ticks.tickOf
+unfolding ofBits common-choice.choose common-places.zip measure-readings.goodOf measure-readings.heldOf measure-readings.measuredOf sheet-sheet.firstFrom sheet-sheet.takenIn sheet-sheet.firstOutOfRange sheet-sheet.judgeOf sheet-sheet.passesOf sheet-table.rowIn sheet-table.rowOf sheet-table.moduleFactor sheet-table.factorOf sheet-table.lowOf sheet-table.highOf sheet-table.stepOf sheet-table.takenOf sheet-table.takenBy organ-limits.organWithin common-places.every organ-limits.organsWithin organ-organs.organOf organ-organs.tripOf drive-follow.ownOf drive-follow.restOf drive-follow.askedOf drive-follow.movingOf drive-follow.supervisedOf drive-follow.followOf drive-follow.withinOf drive-hold.endsOf drive-hold.automaticOf drive-hold.manualOf drive-hold.heldFrom drive-hold.holdOf drive-hold.withinOf fault-latches.resetOf fault-latches.laterOf fault-latches.ageOf fault-latches.latchedOf drive-shown.onOf ways-ways.newerOf input-brought.readingsOf tap-counted.upOf tap-counted.downOf tap-counted.stepOf tap-counted.movedOf tap-counted.countedOf tap-positions.rangedOf tap-positions.bcdOf tap-positions.positionOf tap-sliding.standsIn tap-sliding.slidingOf blocks-blocked.endOf blocks-blocked.organsAutomaticOf blocks-blocked.anyTripOf blocks-blocked.tapLostOf blocks-blocked.blocksOf busbar-deviation.supplyOf busbar-deviation.lowOf busbar-deviation.highOf busbar-deviation.bandOf busbar-deviation.levelOf busbar-deviation.farAbove busbar-section.sectionOf busbar-voltage.goodOf busbar-voltage.both busbar-voltage.currentOf busbar-voltage.dropOf busbar-voltage.voltageDrop busbar-voltage.voltageOf command-automatic.ticksOf command-automatic.waitedOf command-automatic.delayOf command-automatic.waitOnOf command-automatic.towardOf command-automatic.sidedOf command-automatic.keptOf command-automatic.repeatOf command-deciding.decidedOf command-manual.pressedOf command-manual.soughtOf command-manual.grantedOf command-manual.manualOf command-manual.rememberedOf command-pairs.pairOf command-pairs.heardOf record-limits.ticksOf record-limits.delaysOf record-limits.kindWithin record-limits.motionWithin record-limits.pressWithin record-limits.countsWithin record-limits.withinOf record-starting.freshOf acting-accounting.oneMoreOf acting-accounting.operationsOf acting-accounting.accountedOf sensing-assessing.uOf sensing-assessing.assessedOf acting-judging.sideOf acting-judging.blockedOf acting-commanding.askOf acting-commanding.situationOf acting-commanding.decisionOf acting-commanding.regulatedOf acting-commanding.dropsOf acting-commanding.keptPressOf sensing-observing.observedOf sensing-protecting.amountOf sensing-protecting.organInputOf sensing-protecting.organInputsOf sensing-protecting.protectedOf showing.countedOf showing.signalsOf showing.fieldsOf showing.outputsOf acting-supervising.contactOf acting-supervising.holdingOf acting-supervising.clearedOf acting-supervising.followedOf acting-supervising.supervisedOf regulator-ticks.observedIn regulator-ticks.protectedIn regulator-ticks.assessedIn regulator-ticks.sensedOf regulator-ticks.supervisedIn regulator-ticks.blockedIn regulator-ticks.regulatedIn regulator-ticks.rememberedIn regulator-ticks.accountedIn regulator-ticks.actedOf regulator-ticks.nextOf regulator-ticks.endOf regulator-ticks.ranOf regulator-ticks.isOut regulator-ticks.outOf regulator-ticks.refusedOf regulator-ticks.tickOf
 given =
     record {
       early = refl;
@@ -170,6 +192,8 @@ given =
       heldHigh = refl;
       pressed = refl;
       heldPressed = refl;
+      paired = refl;
+      heldPaired = refl;
       onFresh = refl;
       onWaiting = refl;
       onHeld = refl;

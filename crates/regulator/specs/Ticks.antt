@@ -28,7 +28,7 @@ use Rattle.sensing.specs.Protecting.{protectedOf}
 use Rattle.sensing.specs.Assessing.{assessedOf}
 use Rattle.acting.specs.Supervising.{supervisedOf}
 use Rattle.acting.specs.Judging.{blockedOf}
-use Rattle.acting.specs.Commanding.{buttonsOf, regulatedOf, keptPressOf}
+use Rattle.acting.specs.Commanding.{keysOf, regulatedOf, keptPressOf}
 use Rattle.acting.specs.Accounting.{accountedOf}
 use Rattle.showing.specs.Showing.{fieldCount, outputsOf}
 use Rattle.regulator.specs.declared.Acted.{Acted}
@@ -73,7 +73,7 @@ blockedIn r c x v = blockedOf (r .settings) c (v .latch .fault) (findingOf x)
 
 -- what rule 9 remembers
 abbrev pub memoryOf : Regulator → Memory
-memoryOf r = record { drive = r .drive; wait = r .wait; repeat = r .repeat; buttons = r .buttons; remembered = r .remembered }
+memoryOf r = record { drive = r .drive; wait = r .wait; repeat = r .repeat; keys = r .keys; remembered = r .remembered }
 
 -- rule 9: the command and its delay
 unfoldable pub regulatedIn : Regulator → Contacts → Sensed → Supervised → Regulated
@@ -126,7 +126,7 @@ nextOf r c x y =
       last = y .accounted .last;
       «counted_tap» = y .accounted .tap;
       operations = y .accounted .operations;
-      buttons = buttonsOf c;
+      keys = keysOf c;
       remembered = rememberedIn r c (y .supervised);
     }
 

@@ -94,13 +94,13 @@ fn memory_of(r: Regulator) -> Memory
     let drive = r.drive;
     let wait = r.wait;
     let repeat = r.repeat;
-    let buttons = r.buttons;
+    let keys = r.keys;
     let remembered = r.remembered;
     Memory {
         drive: drive,
         wait: wait,
         repeat: repeat,
-        buttons: buttons,
+        keys: keys,
         remembered: remembered,
     }
 }
@@ -186,7 +186,7 @@ fn next_of(r: Regulator, c: Contacts, x: Sensed, y: Acted) -> Regulator
     let repeat = regulated.repeat;
     let accounted = y.accounted;
     let last = accounted.last;
-    let buttons = acting::commanding::buttons_of(c);
+    let keys = acting::commanding::keys_of(c);
     let m = memory_of(r);
     let remembered = acting::commanding::remember(c, fault, m);
     Regulator {
@@ -199,7 +199,7 @@ fn next_of(r: Regulator, c: Contacts, x: Sensed, y: Acted) -> Regulator
         last: last,
         counted_tap: accounted.tap,
         operations: accounted.operations,
-        buttons: buttons,
+        keys: keys,
         remembered: remembered,
     }
 }

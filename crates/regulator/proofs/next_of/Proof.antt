@@ -3,8 +3,8 @@ use borrow.Author.Needs.{needs}
 use Rattle.regulator.proofs.next_of.Statement.{statement}
 use Rattle.regulator.proofs.next_of.Tie as tie
 
-buttons-of-requires : tie.Need-buttons-of-requires
-buttons-of-requires c κs = search needs
+keys-of-requires : tie.Need-keys-of-requires
+keys-of-requires c κs = search needs
 
 memory-of-requires : tie.Need-memory-of-requires
 memory-of-requires c κs = search needs
@@ -17,4 +17,4 @@ unfolding nextOf rememberedIn
 returns c = cc
 
 pub next-of-spec : {M : Type 1} → statement M
-next-of-spec = tie.close (tie.spec buttons-of-requires memory-of-requires remember-requires returns)
+next-of-spec = tie.close (tie.spec keys-of-requires memory-of-requires remember-requires returns)

@@ -9,8 +9,8 @@ rests-requires c κs = search needs
 drops-requires : tie.Need-drops-requires
 drops-requires c κs = search needs
 
-buttons-of-requires : tie.Need-buttons-of-requires
-buttons-of-requires c κs = search needs
+hear-requires : tie.Need-hear-requires
+hear-requires c κs = search needs
 
 remember-requires : tie.Need-remember-requires
 remember-requires c κs = search needs
@@ -22,4 +22,4 @@ returns c = cc
 pub remember-spec : {M : Type 1} → statement M
 remember-spec =
     tie.close
-    (tie.spec rests-requires drops-requires buttons-of-requires remember-requires returns)
+    (tie.spec rests-requires drops-requires hear-requires remember-requires returns)

@@ -12,12 +12,12 @@ rests-requires-2 c κs = search needs
 side-of-requires : tie.Need-side-of-requires
 side-of-requires c κs = search needs
 
-buttons-of-requires : tie.Need-buttons-of-requires
-buttons-of-requires c κs = search needs
+hear-requires : tie.Need-hear-requires
+hear-requires c κs = search needs
 
 returns : tie.Need-returns
 unfolding situationOf
 returns c = cc
 
 pub situation-spec : {M : Type 1} → statement M
-situation-spec = tie.close (tie.spec rests-requires rests-requires-2 side-of-requires buttons-of-requires returns)
+situation-spec = tie.close (tie.spec rests-requires rests-requires-2 side-of-requires hear-requires returns)

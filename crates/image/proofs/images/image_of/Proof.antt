@@ -20,11 +20,8 @@ wait-image-requires c κs = search needs
 way-numbers-requires : tie.Need-way-numbers-requires
 way-numbers-requires c κs = search needs
 
-cast-t16 : tie.Need-cast-t16
-cast-t16 c = search needs
-
-cast-t17 : tie.Need-cast-t17
-cast-t17 c = search needs
+key-numbers-requires : tie.Need-key-numbers-requires
+key-numbers-requires c κs = search needs
 
 returns : tie.Need-returns
 returns c = imaged _ (search image-made)
@@ -38,6 +35,5 @@ image-of-spec =
     fault-number-requires
     wait-image-requires
     way-numbers-requires
-    cast-t16
-    cast-t17
+    key-numbers-requires
     returns)

@@ -13,9 +13,12 @@ is-drive-requires c κs = search needs
 is-wait-requires : tie.Need-is-wait-requires
 is-wait-requires c κs = search needs
 
+are-keys-requires : tie.Need-are-keys-requires
+are-keys-requires c κs = search needs
+
 returns : tie.Need-returns
 unfolding isRecord
 returns c = cc
 
 pub is-record-spec : {M : Type 1} → statement M
-is-record-spec = tie.close (tie.spec are-marks-requires is-drive-requires is-wait-requires returns)
+is-record-spec = tie.close (tie.spec are-marks-requires is-drive-requires is-wait-requires are-keys-requires returns)

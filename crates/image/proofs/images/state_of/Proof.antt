@@ -1,5 +1,5 @@
 -- `image::images::state_of` meets its contract, by what each call ensures. Assumes nothing.
-use Rattle.image.specs.Images.{stateOf}
+use Rattle.image.proofs.Whole.{state-made}
 use borrow.Author.Needs.{needs}
 use Rattle.image.proofs.images.state_of.Statement.{statement}
 use Rattle.image.proofs.images.state_of.Tie as tie
@@ -25,9 +25,11 @@ way-of-requires-2 c κs = search needs
 way-of-requires-3 : tie.Need-way-of-requires-3
 way-of-requires-3 c κs = search needs
 
+keys-of-requires : tie.Need-keys-of-requires
+keys-of-requires c κs = search needs
+
 returns : tie.Need-returns
-unfolding stateOf
-returns c = cc
+returns c = search state-made
 
 pub state-of-spec : {M : Type 1} → statement M
 state-of-spec =
@@ -40,4 +42,5 @@ state-of-spec =
     way-of-requires
     way-of-requires-2
     way-of-requires-3
+    keys-of-requires
     returns)

@@ -15,7 +15,7 @@ tick-requires : tie.Need-tick-requires
 tick-requires c κs = search needs
 
 slice-aggregate-write-line : tie.Need-slice-aggregate-write-line
-slice-aggregate-write-line c = search needs
+slice-aggregate-write-line c = search (needs, c .before .before .before .before .tick .ok)
 
 write-line-requires : tie.Need-write-line-requires
 write-line-requires c κs = search needs

@@ -1,0 +1,214 @@
+-- Panel and dispatcher (02, ticket 7), of every tick: of the keys and the remembered press it goes by what is heard alone. `Worked` has
+-- worked lists.
+-- Assumes nothing.
+use mathlib.Core.Path.{_≡_, refl, sym, ap, subst, _∙_}
+use mathlib.Core.Bool.{Bool, true, false}
+use Prim.Native.Nat.{ℕ}
+use mathlib.Core.Logic.{⊎-elim}
+use Rattle.common.specs.Choice.{choose}
+use Rattle.common.proofs.Joined.{split, and-four, and-false}
+use Rattle.fault.specs.declared.Fault.{Fault}
+use Rattle.fault.specs.Latches.{isFault}
+use Rattle.ways.specs.declared.Way.{Way}
+use Rattle.ways.specs.declared.Way.the-variants.{Neither}
+use Rattle.input.specs.declared.Contacts.{Contacts}
+use Rattle.input.specs.declared.Input.{Input}
+use Rattle.input.specs.Brought.{contactsOf, readingsOf}
+use Rattle.blocks.specs.Blocked.{blocksOf}
+use Rattle.command.specs.declared.Buttons.{Buttons}
+use Rattle.command.specs.declared.pairs.Keys.{Keys}
+use Rattle.command.specs.Pairs.{pairOf, changedOf, heardOf}
+use Rattle.command.proofs.TwoPairs.{withOther, other-unheard, change-forgets}
+use Rattle.record.specs.declared.Regulator.{Regulator}
+use Rattle.sheet.specs.Sheet.{passesOf}
+use Rattle.record.specs.Limits.{motionWithin, pressWithin, countsWithin, withinOf}
+use Rattle.record.specs.Starting.{localKeys, freshOf}
+use Rattle.sensing.specs.Observing.{observedOf}
+use Rattle.sensing.specs.Assessing.{assessedOf}
+use Rattle.acting.specs.Judging.{blockedOf}
+use Rattle.acting.specs.Supervising.{contactOf, clearedOf, holdingOf, followedOf, supervisedOf}
+use Rattle.acting.specs.Commanding.{keysOf, heardIn}
+use Rattle.acting.proofs.TwoPairs.{contactsWith, regulated-by-heard, kept-by-heard, held-begins-nothing}
+use Rattle.regulator.specs.declared.Ticked.{Ticked}
+use Rattle.acting.specs.declared.supervising.Supervised.{Supervised}
+use Rattle.regulator.proofs.Steps.{live-is, out-is}
+use Rattle.regulator.specs.declared.Sensed.{Sensed}
+use Rattle.regulator.specs.Ticks.{observedIn, protectedIn, assessedIn, sensedOf, supervisedIn, blockedIn, memoryOf, regulatedIn, rememberedIn, accountedIn, actedOf, nextOf, endOf, ranOf, isOut, outOf, refusedOf, tickOf}
+
+-- the record with these keys of the previous tick, and this press remembered
+abbrev pub recalling : Keys → Way → Regulator → Regulator
+recalling k press r =
+    record {
+      settings = r .settings;
+      organs = r .organs;
+      drive = r .drive;
+      latch = r .latch;
+      wait = r .wait;
+      repeat = r .repeat;
+      last = r .last;
+      «counted_tap» = r .«counted_tap»;
+      operations = r .operations;
+      keys = k;
+      remembered = press;
+    }
+
+-- the record but for its keys
+abbrev pub rekeyed : Keys → Regulator → Regulator
+rekeyed k r = recalling k (r .remembered) r
+
+-- the tick with these contacts
+abbrev pub withContacts : ℕ → Input → Input
+withContacts n i =
+    record {
+      «u_ab» = i .«u_ab»;
+      u0 = i .u0;
+      u2 = i .u2;
+      «i_high» = i .«i_high»;
+      «i_bus» = i .«i_bus»;
+      «i_coupler» = i .«i_coupler»;
+      phasors = i .phasors;
+      contacts = n;
+      bcd = i .bcd;
+      sensor = i .sensor;
+    }
+
+module _ (r : Regulator) (i : Input) (c : Contacts) (n : ℕ) (now before : Keys) (press : Way) where
+  abbrev r′ : Regulator
+  r′ = recalling before press r
+
+  abbrev i′ : Input
+  i′ = withContacts n i
+
+  abbrev c′ : Contacts
+  c′ = contactsWith now c
+
+  sensed-same : sensedOf r′ i′ c′ ≡ sensedOf r i c
+  unfolding sensedOf observedIn protectedIn assessedIn observedOf assessedOf readingsOf
+  sensed-same = refl
+
+  supervised-same : (x : Sensed) → supervisedIn r′ c′ x ≡ supervisedIn r c x
+  unfolding supervisedIn supervisedOf followedOf holdingOf contactOf clearedOf blockedOf blocksOf
+  supervised-same x = refl
+
+  blocked-same : (x : Sensed) (v : Supervised) → blockedIn r′ c′ x v ≡ blockedIn r c x v
+  unfolding blockedIn blockedOf blocksOf
+  blocked-same x v = refl
+
+  module _ (h : heardOf now before press ≡ heardIn c (memoryOf r)) where
+    regulated-same : (x : Sensed) (v : Supervised) → regulatedIn r′ c′ x v ≡ regulatedIn r c x v
+    unfolding regulatedIn
+    regulated-same x v =
+        rw (blocked-same x v) (regulated-by-heard c (memoryOf r) now before press h (r .settings) (x .assessed) (blockedIn r c x v) (v .drive))
+
+    acted-same : (x : Sensed) → actedOf r′ c′ x ≡ actedOf r c x
+    unfolding actedOf accountedIn
+    acted-same x =
+        rw (supervised-same x, blocked-same x (supervisedIn r c x), regulated-same x (supervisedIn r c x)) refl
+
+    remembered-same : (v : Supervised) → rememberedIn r′ c′ v ≡ rememberedIn r c v
+    unfolding rememberedIn
+    remembered-same v = kept-by-heard c (memoryOf r) now before press h (v .latch .fault)
+
+    -- the same outputs, and the same next record but for the keys, which are this tick's
+    pub ran-same : ranOf r′ i′ c′ ≡ record { reply = ranOf r i c .reply; next = rekeyed now (ranOf r i c .next) }
+    unfolding ranOf endOf nextOf
+    ran-same =
+        rw (sensed-same, acted-same (sensedOf r i c), remembered-same (actedOf r c (sensedOf r i c) .supervised)) refl
+
+-- ---- the other pair
+
+-- the same reply, and the same next record but for the keys
+abbrev pub Alike : Ticked → Ticked → Type 0
+Alike t u = (t .reply ≡ u .reply) × ((k : Keys) → rekeyed k (t .next) ≡ rekeyed k (u .next))
+
+alike-chosen : (b : Bool) (t u v w : Ticked) → Alike t u → Alike v w → Alike (choose b t v) (choose b u w)
+unfolding choose
+alike-chosen true t u v w p q = p
+alike-chosen false t u v w p q = q
+
+-- a tick by its contacts
+abbrev tickBy : Regulator → Input → Contacts → Ticked
+tickBy r i c = choose (withinOf r) (choose (isOut r c) (outOf r) (ranOf r i c)) (refusedOf r)
+
+tick-by : (r : Regulator) (i : Input) → tickOf r i ≡ tickBy r i (contactsOf (i .contacts))
+unfolding tickOf
+tick-by r i = refl
+
+module _ (r : Regulator) (i : Input) (n : ℕ) (b b′ : Buttons) where
+  abbrev c : Contacts
+  c = contactsOf (i .contacts)
+
+  abbrev now : Keys
+  now = withOther (c .remote) b (keysOf c)
+
+  abbrev before : Keys
+  before = withOther (c .remote) b′ (r .keys)
+
+  abbrev r″ : Regulator
+  r″ = rekeyed before r
+
+  by-contacts : Alike (tickBy r″ (withContacts n i) (contactsWith now c)) (tickBy r i c)
+  unfolding withinOf isOut outOf refusedOf
+  by-contacts =
+      let ran = ran-same r i c n now before (r .remembered) (other-unheard (keysOf c) (r .keys) (r .remembered) b b′) in
+      alike-chosen (withinOf r) _ _ _ _
+      (alike-chosen (isOut r c) _ _ _ _ (refl, (λ k. refl)) (ap (λ (t : Ticked). t .reply) ran, (λ k. ap (λ (t : Ticked). rekeyed k (t .next)) ran)))
+      (refl, (λ k. refl))
+
+  -- a button of the other pair, held or pressed, neither commands nor stops a command of the mode's pair: whatever its bits are on this
+  -- tick, and were on the previous one, the reply is the same, and so is the next record but for the keys
+  pub other-pair-unheard : contactsOf n ≡ contactsWith now c → Alike (tickOf r″ (withContacts n i)) (tickOf r i)
+  other-pair-unheard e =
+      rw (tick-by r″ (withContacts n i), tick-by r i) (subst (λ (d : Contacts). Alike (tickBy r″ (withContacts n i) d) (tickBy r i c)) (sym e) by-contacts)
+
+-- ---- the mode, and what each pair remembers
+
+no-press : (f : Fault) → pressWithin f Neither ≡ true
+unfolding pressWithin
+no-press f = rw (and-false (isFault f)) refl
+
+module _ (r : Regulator) (i : Input) (w : withinOf r ≡ true) where
+  abbrev cᵢ : Contacts
+  cᵢ = contactsOf (i .contacts)
+
+  -- a record that remembers no press, and is as it was otherwise
+  abbrev forgetful : Regulator
+  forgetful = recalling (r .keys) Neither r
+
+  forgetful-within : withinOf forgetful ≡ true
+  unfolding withinOf
+  forgetful-within =
+      let passed = passesOf (r .settings) in
+      let moved = motionWithin (r .settings) (r .drive) (r .wait) (r .latch) in
+      let pressed = pressWithin (r .latch .fault) (r .remembered) in
+      let counted = countsWithin (r .settings) (r .organs) (r .«counted_tap») (r .operations) in
+      let all = and-four passed moved pressed counted w in
+      rw (all .0, all .1, no-press (r .latch .fault), all .3)
+
+  -- "a change of mode drops a remembered press": the tick is that of the record which remembers none
+  pub dropped-by-change : changedOf (keysOf cᵢ) (r .keys) ≡ true → tickOf r i ≡ tickOf forgetful i
+  unfolding ranOf endOf nextOf isOut outOf
+  dropped-by-change e =
+      let ran = ran-same r i cᵢ (i .contacts) (keysOf cᵢ) (r .keys) Neither (sym (change-forgets (keysOf cᵢ) (r .keys) (r .remembered) e)) in
+      ⊎-elim (λ o. out-is r i w o ∙ sym (out-is forgetful i forgetful-within o))
+      (λ o. live-is r i w o ∙ (sym ran ∙ sym (live-is forgetful i forgetful-within o)))
+      (split (isOut r cᵢ))
+
+  -- "each pair remembers its own previous tick in both modes"
+  pub both-remembered : isOut r cᵢ ≡ false → tickOf r i .next .keys ≡ keysOf cᵢ
+  unfolding ranOf endOf nextOf
+  both-remembered o = ap (λ (t : Ticked). t .next .keys) (live-is r i w o)
+
+  -- "pressed when fresh"
+  pub pressed-when-out : isOut r cᵢ ≡ true → tickOf r i .next .keys ≡ localKeys true
+  unfolding outOf freshOf
+  pressed-when-out o = ap (λ (t : Ticked). t .next .keys) (out-is r i w o)
+
+  -- so a button that is held through a change of mode is no press of its pair: the tick begins no command, and leaves the drive as rule 7 did
+  pub held-begins-none : isOut r cᵢ ≡ false → cᵢ .automatic ≡ false → changedOf (keysOf cᵢ) (r .keys) ≡ true
+      → (pairOf (cᵢ .remote) (keysOf cᵢ) .raise ≡ true → pairOf (cᵢ .remote) (r .keys) .raise ≡ true)
+      → (pairOf (cᵢ .remote) (keysOf cᵢ) .lower ≡ true → pairOf (cᵢ .remote) (r .keys) .lower ≡ true)
+      → tickOf r i .next .drive ≡ supervisedIn r cᵢ (sensedOf r i cᵢ) .drive
+  unfolding ranOf endOf nextOf actedOf regulatedIn
+  held-begins-none o a e p q =
+      ap (λ (t : Ticked). t .next .drive) (live-is r i w o) ∙ held-begins-nothing cᵢ (memoryOf r) a e p q _ _ _ _
