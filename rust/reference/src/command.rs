@@ -2,6 +2,7 @@
 //! 6: the press that is remembered until the drive is at rest.
 
 use crate::blocks::Blocks;
+use crate::buttons;
 use crate::input::{bit, Contacts};
 use crate::record::{Direction, Drive, Fault, Record, Side, Wait};
 use crate::sheet::{is_continuous, slot, Settings};
@@ -79,20 +80,15 @@ fn delay(settings: &Settings, repeat: Option<Side>, voltage: &Voltage, side: Sid
 /// "carried out as if pressed alone then". "A real press on that tick wins", and
 /// one that is blocked is a press all the same.
 fn manual(record: &Record, contacts: Contacts, blocks: &Blocks) -> Option<Direction> {
-    let pressed = press(record, contacts).or(record.remembered);
-    pressed.filter(|&direction| !blocks.manual && !blocks.way(direction))
+    latest_press(record, contacts).filter(|&direction| !blocks.manual && !blocks.way(direction))
 }
 
-/// "One press, as rule 9 judges it, blocks aside": exactly one button pressed,
-/// and that one not on the previous tick.
-fn press(record: &Record, contacts: Contacts) -> Option<Direction> {
-    let raise = contacts.on(bit::RAISE_BUTTON);
-    let lower = contacts.on(bit::LOWER_BUTTON);
-    match (raise, lower) {
-        (true, false) if !record.raise_button => Some(Direction::Raise),
-        (false, true) if !record.lower_button => Some(Direction::Lower),
-        _ => None,
-    }
+/// A press on this tick, of the pair of its mode; without one the press that was
+/// remembered. Ticket 7: "a change of mode drops a remembered press", so on its
+/// tick only a press of the new mode's pair counts.
+fn latest_press(record: &Record, contacts: Contacts) -> Option<Direction> {
+    let remembered = record.remembered.filter(|_| !buttons::mode_changes(record, contacts));
+    buttons::press(record, contacts).or(remembered)
 }
 
 /// The press that the tick leaves in the record: one "made on a tick that starts
@@ -104,7 +100,7 @@ pub fn remembered_after(record: &Record, contacts: Contacts, fault: Fault) -> Op
     let unfinished = record.drive != Drive::Rest;
     let dropped = fault != Fault::None || contacts.any(&[bit::AUTOMATIC, bit::LOCAL_DRIVE]);
     match unfinished && !dropped {
-        true => press(record, contacts).or(record.remembered),
+        true => latest_press(record, contacts),
         false => None,
     }
 }

@@ -7,7 +7,7 @@ use crate::reading::Reading;
 pub const READINGS: usize = 12;
 
 /// How many contacts there are; the bits after them are ignored.
-pub const CONTACTS: u32 = 21;
+pub const CONTACTS: u32 = 24;
 
 /// The inputs of one tick.
 #[derive(Clone, Copy, Debug, PartialEq)]
@@ -108,6 +108,12 @@ pub mod bit {
     pub const U_SUPP2: u32 = 16;
     pub const U_SUPP3: u32 = 17;
     pub const U_SUPP4: u32 = 18;
+    /// The panel's buttons.
     pub const RAISE_BUTTON: u32 = 19;
     pub const LOWER_BUTTON: u32 = 20;
+    /// Ticket 7: set in remote mode, clear in local mode.
+    pub const REMOTE: u32 = 21;
+    /// Ticket 7: "the dispatcher's raise and lower".
+    pub const REMOTE_RAISE: u32 = 22;
+    pub const REMOTE_LOWER: u32 = 23;
 }

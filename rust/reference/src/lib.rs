@@ -4,9 +4,10 @@
 //! and the rules of one tick"), changed by ticket 1, "Readings to the nearest
 //! thousandth", ticket 2, "Drives without a switching contact", ticket 3,
 //! "Compensation along the line's impedance", ticket 4, "The reading tested in
-//! another order of work", ticket 5, "The breaker's own rating", and ticket 6,
-//! "A press while the drive runs". A tick is 5 ms. Delays count ticks, voltages
-//! are in mV, currents in mA, R and X in mΩ, primary ratings in A.
+//! another order of work", ticket 5, "The breaker's own rating", ticket 6, "A
+//! press while the drive runs", and ticket 7, "Panel and dispatcher apart". A
+//! tick is 5 ms. Delays count ticks, voltages are in mV, currents in mA, R and X
+//! in mΩ, primary ratings in A.
 //!
 //! * [`sheet::check`] takes or refuses a setting sheet,
 //! * [`tick::tick`] advances a record by one tick and gives its outputs.
@@ -14,6 +15,7 @@
 #![forbid(unsafe_code)]
 
 pub mod blocks;
+pub mod buttons;
 pub mod command;
 pub mod continuous;
 pub mod dice;

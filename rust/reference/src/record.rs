@@ -130,12 +130,17 @@ pub struct Record {
     pub last_direction: Option<Direction>,
     pub counted_tap: u32,
     pub operations: u32,
-    /// The buttons as they were on the previous tick.
+    /// The panel's buttons as they were on the previous tick.
     pub raise_button: bool,
     pub lower_button: bool,
     /// Ticket 6: the press made while a command or move was unfinished. At rest
     /// the tick to come is the first one there, and carries it out.
     pub remembered: Option<Direction>,
+    /// Ticket 7: the dispatcher's buttons as they were on the previous tick.
+    pub remote_raise: bool,
+    pub remote_lower: bool,
+    /// Ticket 7: whether the mode of the previous tick was remote.
+    pub remote: bool,
 }
 
 impl Record {
@@ -144,13 +149,16 @@ impl Record {
         check(list).map(Record::fresh)
     }
 
-    /// The fresh record of rule 1.
+    /// The fresh record of rule 1: the buttons of both pairs "pressed when fresh",
+    /// and local mode.
     pub fn fresh(settings: Settings) -> Record {
         Record {
             counted_tap: settings[slot::N_POS],
             operations: settings[slot::N_START],
             raise_button: true,
             lower_button: true,
+            remote_raise: true,
+            remote_lower: true,
             settings,
             ..Record::zeros()
         }
@@ -172,6 +180,9 @@ impl Record {
             raise_button: false,
             lower_button: false,
             remembered: None,
+            remote_raise: false,
+            remote_lower: false,
+            remote: false,
         }
     }
 }

@@ -110,6 +110,9 @@ fn advance(record: &Record, input: &Input, findings: &Findings) -> Record {
         raise_button: input.contacts.on(bit::RAISE_BUTTON),
         lower_button: input.contacts.on(bit::LOWER_BUTTON),
         remembered: command::remembered_after(record, input.contacts, fault),
+        remote_raise: input.contacts.on(bit::REMOTE_RAISE),
+        remote_lower: input.contacts.on(bit::REMOTE_LOWER),
+        remote: input.contacts.on(bit::REMOTE),
     }
 }
 

@@ -1,6 +1,6 @@
-//! Rules 9 and 7 and ticket 6 told once more, from inputs and outputs alone, for
-//! both kinds of drive: a watcher that never looks into the record must agree on
-//! every tick.
+//! Rules 9 and 7 and tickets 6 and 7 told once more, from inputs and outputs
+//! alone, for both kinds of drive: a watcher that never looks into the record must
+//! agree on every tick.
 
 use reference::input::{bit, Input};
 use reference::record::{Direction, Side};
@@ -11,6 +11,9 @@ use reference::voltage;
 
 type Outputs = [u32; OUTPUTS];
 
+/// All four buttons, and local mode.
+const FRESH: u32 = 0b1101_1000_0000_0000_0000_0000;
+
 /// What the watcher remembers.
 struct Watcher {
     settings: Settings,
@@ -20,7 +23,8 @@ struct Watcher {
     row_side: Option<Side>,
     /// Side of the last automatic command, if nothing has ended T2 since.
     repeat: Option<Side>,
-    buttons: (bool, bool),
+    /// The contacts of the tick before; from fresh, all buttons.
+    contacts: u32,
     /// The last press since output 24 came on that nothing has dropped.
     pressed: Option<Direction>,
     /// Ticks in a row with the same supply-tripping fault.
@@ -39,7 +43,7 @@ impl Watcher {
             row: 0,
             row_side: None,
             repeat: None,
-            buttons: (true, true),
+            contacts: FRESH,
             pressed: None,
             tripping: 0,
             operations: settings[slot::N_START],
@@ -66,7 +70,7 @@ impl Watcher {
         self.remember(input, outputs);
         self.supply_trip(input, outputs);
         self.wear(input, outputs);
-        self.buttons = (on(bit::RAISE_BUTTON), on(bit::LOWER_BUTTON));
+        self.contacts = input.contacts.0;
         self.before = *outputs;
     }
 
@@ -140,7 +144,8 @@ impl Watcher {
             return (0, 0);
         }
         let real = self.press(input);
-        match real.or(self.pressed) {
+        let kept = if self.turns(input) { None } else { self.pressed };
+        match real.or(kept) {
             Some(Direction::Raise) if outputs[15] == 0 => self.begin(real, (1, 0)),
             Some(Direction::Lower) if outputs[16] == 0 => self.begin(real, (0, 1)),
             _ => (0, 0),
@@ -153,13 +158,20 @@ impl Watcher {
         way
     }
 
-    /// The one button that is pressed, if it was not before.
+    /// The one button of the mode's pair that is pressed, if it was not before.
     fn press(&self, input: &Input) -> Option<Direction> {
-        let raise = input.contacts.on(bit::RAISE_BUTTON);
-        let lower = input.contacts.on(bit::LOWER_BUTTON);
-        let raises = (raise && !lower && !self.buttons.0).then_some(Direction::Raise);
-        let lowers = (lower && !raise && !self.buttons.1).then_some(Direction::Lower);
-        raises.or(lowers)
+        let place = if input.contacts.on(bit::REMOTE) { 22 } else { 19 };
+        let (before, now) = ((self.contacts >> place) & 3, (input.contacts.0 >> place) & 3);
+        match now {
+            1 if before & 1 == 0 => Some(Direction::Raise),
+            2 if before & 2 == 0 => Some(Direction::Lower),
+            _ => None,
+        }
+    }
+
+    /// Whether the mode turns from local to remote or back.
+    fn turns(&self, input: &Input) -> bool {
+        (self.contacts ^ input.contacts.0) & (1 << 21) != 0
     }
 
     /// Keeps the last press of a command or move, until something drops it or a
@@ -170,6 +182,8 @@ impl Watcher {
             self.pressed = None;
         } else if let Some(press) = self.press(input) {
             self.pressed = Some(press);
+        } else if self.turns(input) {
+            self.pressed = None;
         }
     }
 

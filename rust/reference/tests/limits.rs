@@ -175,6 +175,32 @@ fn remembered_press() {
 }
 
 #[test]
+fn no_limit_goes_by_the_buttons_and_the_mode_of_the_previous_tick() {
+    let remembered = [None, Some(RAISE), Some(Direction::Lower)];
+    for (bits, remembered) in (0..32).flat_map(|bits| remembered.map(|remembered| (bits, remembered))) {
+        let on = move |place: u32| (bits >> place) & 1 == 1;
+        let set = move |r: &mut Record| {
+            (r.raise_button, r.lower_button) = (on(0), on(1));
+            (r.remote_raise, r.remote_lower, r.remote) = (on(2), on(3), on(4));
+            r.remembered = remembered;
+        };
+        let set_beside = |drive| {
+            move |r: &mut Record| {
+                set(r);
+                r.drive = drive;
+            }
+        };
+        for drive in [Drive::Rest, asked(0), asked_by_button(99), moving(100)] {
+            assert!(holds(set_beside(drive)), "{bits:05b}");
+        }
+        assert!(!holds(set_beside(moving(101))), "{bits:05b}");
+        assert!(continuous_holds(20, 20, set_beside(asked(19))), "{bits:05b}");
+        let beside_a_fault = changed_holds(Record { fault: Fault::Fast, ..fresh(&[]) }, set);
+        assert_eq!(beside_a_fault, remembered.is_none(), "{bits:05b}");
+    }
+}
+
+#[test]
 fn organs() {
     for i in 0..ORGANS {
         let organ = |marked, count| Organ { marked, count };

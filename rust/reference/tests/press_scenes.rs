@@ -38,10 +38,19 @@ impl Seen<'_> {
         self.ticked.outputs == [0; OUTPUTS] && self.on(bit::OUT)
     }
 
-    /// The buttons, whether pressed and whether newly.
+    /// The buttons of the mode's pair, whether pressed and whether newly.
     fn buttons(&self) -> [(bool, bool); 2] {
-        let (raise, lower) = (self.on(bit::RAISE_BUTTON), self.on(bit::LOWER_BUTTON));
-        [(raise, raise && !self.before.raise_button), (lower, lower && !self.before.lower_button)]
+        let Record { raise_button, lower_button, remote_raise, remote_lower, .. } = *self.before;
+        let pair = match self.on(bit::REMOTE) {
+            false => [(bit::RAISE_BUTTON, raise_button), (bit::LOWER_BUTTON, lower_button)],
+            true => [(bit::REMOTE_RAISE, remote_raise), (bit::REMOTE_LOWER, remote_lower)],
+        };
+        pair.map(|(bit, before)| (self.on(bit), self.on(bit) && !before))
+    }
+
+    /// Ticket 7's change of mode drops a press too; tests/pair_scenes.rs counts it.
+    fn mode_changes(&self) -> bool {
+        self.on(bit::REMOTE) != self.before.remote
     }
 
     fn press(&self) -> Option<Direction> {
@@ -165,6 +174,7 @@ fn counts() -> Counts {
             let (input, ticked) = scene.next_tick();
             let seen = Seen { before: &before, input: &input, ticked: &ticked };
             match before.remembered {
+                _ if seen.mode_changes() => {}
                 _ if seen.unfinished() => counts.during(&seen),
                 Some(remembered) => counts.first(&seen, remembered),
                 None => {}

@@ -65,6 +65,52 @@ fn contact_turned(input: &Input) -> Input {
     other
 }
 
+/// A tick with the panel's and the dispatcher's buttons and the modes exchanged.
+fn pairs_exchanged(input: &Input) -> Input {
+    let (panel, dispatcher) = (input.contacts.0 >> 19 & 3, input.contacts.0 >> 22 & 3);
+    let others = (input.contacts.0 ^ 1 << 21) & !(0b11011 << 19);
+    let mut exchanged = *input;
+    exchanged.contacts.0 = others | panel << 22 | dispatcher << 19;
+    exchanged
+}
+
+/// The same of a record.
+fn record_exchanged(record: &Record) -> Record {
+    Record {
+        raise_button: record.remote_raise,
+        lower_button: record.remote_lower,
+        remote_raise: record.raise_button,
+        remote_lower: record.lower_button,
+        remote: !record.remote,
+        ..record.clone()
+    }
+}
+
+/// A tick on which the buttons that do not act are turned over.
+fn other_pair_turned(input: &Input) -> Input {
+    let mut other = *input;
+    other.contacts.0 ^= if input.contacts.on(bit::REMOTE) { 3 << 19 } else { 3 << 22 };
+    other
+}
+
+/// The two pairs differ in nothing but their mode, and of the other mode's pair
+/// nothing but the memory of its own buttons goes by.
+fn assert_pairs_apart(record: &Record, input: &Input, ticked: &Ticked) {
+    let exchanged = tick(&record_exchanged(record), &pairs_exchanged(input));
+    assert_eq!((exchanged.outputs, &record_exchanged(&exchanged.next)), (ticked.outputs, &ticked.next));
+    let turned = tick(record, &other_pair_turned(input));
+    assert_eq!(turned.outputs, ticked.outputs);
+    let next = match input.contacts.on(bit::REMOTE) {
+        true => {
+            Record { raise_button: !ticked.next.raise_button, lower_button: !ticked.next.lower_button, ..ticked.next.clone() }
+        }
+        false => {
+            Record { remote_raise: !ticked.next.remote_raise, remote_lower: !ticked.next.remote_lower, ..ticked.next.clone() }
+        }
+    };
+    assert_eq!(turned.next, next);
+}
+
 #[test]
 fn scenes_stay_sound() {
     for seed in 0..100 {
@@ -251,6 +297,9 @@ fn any_record(dice: &mut Dice) -> Record {
     record.operations = any_up_to(dice, 0, 999_999);
     record.raise_button = dice.one_in(2);
     record.lower_button = dice.one_in(2);
+    record.remote_raise = dice.one_in(2);
+    record.remote_lower = dice.one_in(2);
+    record.remote = dice.one_in(2);
     record.remembered = Some(any_direction(dice)).filter(|_| record.fault == Fault::None && dice.one_in(2));
     record
 }
@@ -264,6 +313,9 @@ fn any_record_within_limits_stays_so() {
             let input = any_input(&mut dice);
             let ticked = tick(&record, &input);
             assert_sound(&record, &ticked);
+            if record.settings[slot::IN_SERVICE] == 1 {
+                assert_pairs_apart(&record, &input, &ticked);
+            }
             if is_continuous(&record.settings) {
                 assert_eq!(ticked, tick(&record, &contact_turned(&input)));
             }

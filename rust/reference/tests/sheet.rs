@@ -236,7 +236,8 @@ fn the_fresh_record() {
     assert_eq!((record.fault_age, record.wait), (0, Wait::None));
     assert_eq!((record.repeat, record.last_direction), (None, None));
     assert_eq!((record.counted_tap, record.operations), (20, 77));
-    assert!(record.raise_button && record.lower_button);
+    assert!(record.raise_button && record.lower_button && record.remote_raise && record.remote_lower);
+    assert!(!record.remote);
     assert_eq!((record.remembered, Record::zeros().remembered), (None, None));
     assert!(within_limits(&record));
 }

@@ -1,8 +1,9 @@
-//! For ticket 6: commands and moves in each state that counts as unfinished,
+//! For tickets 6 and 7: commands and moves in each state that counts as unfinished,
 //! tick by tick until they end, and some ticks at rest after that.
 
 use std::ops::RangeInclusive;
 
+use super::modes::Mode;
 use super::*;
 use reference::record::{Direction, Drive, Fault};
 
@@ -34,6 +35,37 @@ impl Course {
         Course { name, record, ticks: [ticks, vec![calm(); AFTER]].concat(), end }
     }
 
+    /// A regulator at rest after a tick in this mode without buttons, for so many
+    /// ticks more.
+    pub fn at_rest(mut record: Record, mode: Mode, ticks: usize) -> Course {
+        step(&mut record, &mode.calm());
+        assert!(record.drive == Drive::Rest && record.fault == Fault::None);
+        Course { name: "at rest", record, ticks: vec![mode.calm(); ticks], end: 0 }
+    }
+
+    /// The course in this mode, from the tick before on.
+    pub fn in_mode(mut self, mode: Mode) -> Course {
+        self.record.remote = mode.is_remote();
+        match mode {
+            Mode::Local => self,
+            Mode::Remote => self.turned(1),
+        }
+    }
+
+    /// The course with the other mode, local or remote, from a tick on.
+    pub fn turned(self, tick: usize) -> Course {
+        let last = self.last();
+        self.turned_on(tick..=last)
+    }
+
+    /// The course with the other mode on some ticks.
+    pub fn turned_on(mut self, ticks: RangeInclusive<usize>) -> Course {
+        for number in ticks {
+            self.ticks[number - 1].contacts.0 ^= 1 << bit::REMOTE;
+        }
+        self
+    }
+
     /// The number of the first tick that starts with the drive at rest.
     pub fn first(&self) -> usize {
         self.end + 1
@@ -55,6 +87,11 @@ impl Course {
     /// The course with one button pressed on one tick.
     pub fn press(self, tick: usize, direction: Direction) -> Course {
         self.on(tick..=tick, &[button(direction)])
+    }
+
+    /// The course with one button of this mode's pair pressed on one tick.
+    pub fn press_in(self, mode: Mode, tick: usize, direction: Direction) -> Course {
+        self.on(tick..=tick, &[mode.button(direction)])
     }
 
     /// The course with another tick in one place.
@@ -83,20 +120,25 @@ impl Course {
 
     /// The commands that begin, and the record after each tick.
     pub fn run(&self) -> (Vec<(usize, Direction)>, Vec<Record>) {
-        let (mut begun, mut records) = (vec![], vec![]);
-        let mut record = self.record.clone();
-        for (i, input) in self.ticks.iter().enumerate() {
-            let rested = record.drive == Drive::Rest;
-            let outputs = step(&mut record, input);
-            match (rested, outputs[0], outputs[1]) {
-                (true, 1, 0) => begun.push((i + 1, RAISE)),
-                (true, 0, 1) => begun.push((i + 1, LOWER)),
-                _ => {}
-            }
-            records.push(record.clone());
-        }
-        (begun, records)
+        run(&self.record, &self.ticks)
     }
+}
+
+/// The commands that begin on these ticks, and the record after each.
+pub fn run(record: &Record, ticks: &[Input]) -> (Vec<(usize, Direction)>, Vec<Record>) {
+    let (mut begun, mut records) = (vec![], vec![]);
+    let mut record = record.clone();
+    for (i, input) in ticks.iter().enumerate() {
+        let rested = record.drive == Drive::Rest;
+        let outputs = step(&mut record, input);
+        match (rested, outputs[0], outputs[1]) {
+            (true, 1, 0) => begun.push((i + 1, RAISE)),
+            (true, 0, 1) => begun.push((i + 1, LOWER)),
+            _ => {}
+        }
+        records.push(record.clone());
+    }
+    (begun, records)
 }
 
 /// The bit of a direction's button.

@@ -3,6 +3,7 @@
 #![allow(dead_code)]
 
 pub mod courses;
+pub mod modes;
 
 use reference::floats::{float_of, part_of};
 use reference::input::{bit, Input, READINGS};
