@@ -34,13 +34,15 @@ pub fn press(record: &Record, contacts: Contacts) -> Option<Direction> {
 /// "Bit 21 chooses remote mode", and with it the dispatcher's pair; "bits 19 and
 /// 20 act only in local mode". The pair as it was and as it is.
 fn pair_of_its_mode(record: &Record, contacts: Contacts) -> [ButtonPair; 2] {
-    let pair = |raise, lower| ButtonPair { raise: contacts.on(raise), lower: contacts.on(lower) };
+    let now = |raise, lower| ButtonPair { raise: contacts.on(raise), lower: contacts.on(lower) };
     match contacts.on(bit::REMOTE) {
         false => {
-            [ButtonPair { raise: record.raise_button, lower: record.lower_button }, pair(bit::RAISE_BUTTON, bit::LOWER_BUTTON)]
+            let before = ButtonPair { raise: record.raise_button, lower: record.lower_button };
+            [before, now(bit::RAISE_BUTTON, bit::LOWER_BUTTON)]
         }
         true => {
-            [ButtonPair { raise: record.remote_raise, lower: record.remote_lower }, pair(bit::REMOTE_RAISE, bit::REMOTE_LOWER)]
+            let before = ButtonPair { raise: record.remote_raise, lower: record.remote_lower };
+            [before, now(bit::REMOTE_RAISE, bit::REMOTE_LOWER)]
         }
     }
 }
