@@ -1,5 +1,5 @@
-//! A simulated operator who presses while the drive runs, and what comes in
-//! between: what drops or blocks a remembered press.
+//! A simulated operator, at the panel or the dispatcher, who presses while the
+//! drive runs, and what comes in between: what drops or blocks a remembered press.
 
 use crate::dice::Dice;
 use crate::input::bit;
@@ -50,9 +50,11 @@ pub struct Operator {
 }
 
 impl Operator {
-    /// The buttons on a tick. They change more often about the end of a move.
-    pub fn press(&mut self, dice: &mut Dice, phase: Phase) -> u32 {
+    /// The buttons on a tick. They change more often about the end of a move, and
+    /// as the mode turns between local and remote.
+    pub fn press(&mut self, dice: &mut Dice, phase: Phase, turned: bool) -> u32 {
         let changes = match phase {
+            _ if turned => 2,
             Phase::Rest => 4,
             Phase::Unfinished => 6,
             Phase::Ending | Phase::FirstAtRest => 2,
@@ -99,4 +101,16 @@ pub fn in_between(dice: &mut Dice, phase: Phase) -> u32 {
         true => 1 << bit::SWITCHING,
         false => 1 << dice.pick(&BETWEEN),
     }
+}
+
+/// Whether the mode turns from local to remote or back on a tick: on one in
+/// `often` of a command or move, seldom at rest, and mostly about the end.
+pub fn remote_turns(dice: &mut Dice, phase: Phase, often: u32) -> bool {
+    let often = match phase {
+        Phase::Rest => 2 * often,
+        Phase::Unfinished => often,
+        Phase::Ending => often / 20,
+        Phase::FirstAtRest => often / 30,
+    };
+    dice.one_in(often)
 }

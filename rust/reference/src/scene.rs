@@ -6,12 +6,12 @@ use crate::floats::{float_of, floats_beside, part_of, parts_beside, BESIDE};
 use crate::input::{bit, Contacts, Input, CONTACTS, READINGS};
 use crate::make_sheet;
 use crate::motor::Motor;
-use crate::operator::{in_between, Operator, Phase};
+use crate::operator::{in_between, remote_turns, Operator, Phase};
 use crate::plant::Plant;
 use crate::reading::Reading;
 use crate::record::{Direction, Drive, Record};
 use crate::sheet::{is_continuous, module_k, slot, Settings};
-use crate::stretch::{others, Buttons, Level, Others, Stretch, LOWER, RAISE};
+use crate::stretch::{others, Hands, Level, Others, Stretch, LOWER, RAISE};
 use crate::tick::{tick, Ticked, OUTPUTS};
 use crate::voltage::{compensated, compensation, picked, Ratings};
 
@@ -22,7 +22,8 @@ pub struct Scene {
     outputs: [u32; OUTPUTS],
     plant: Plant,
     motor: Motor,
-    operator: Operator,
+    /// At the panel, and the dispatcher.
+    operators: [Operator; 2],
     /// Whether the tick before started with a command or move unfinished.
     unfinished_before: bool,
     stretch: Stretch,
@@ -39,7 +40,7 @@ impl Scene {
             outputs: [0; OUTPUTS],
             plant: Plant::new(settings[slot::N_POS]),
             motor: Motor::default(),
-            operator: Operator::default(),
+            operators: Default::default(),
             unfinished_before: false,
             stretch,
         }
@@ -116,14 +117,14 @@ impl Scene {
     fn contacts(&mut self, settings: &Settings) -> u32 {
         let mut contacts = self.stretch.contacts | (self.dice.bits() << CONTACTS);
         contacts |= u32::from(self.switching(settings)) << bit::SWITCHING;
-        contacts ^= match self.stretch.buttons {
-            Buttons::Still(bits) => bits,
-            Buttons::Tapped if self.dice.one_in(6) => self.dice.pick(&[RAISE, LOWER]),
-            Buttons::Tapped => 0,
-            Buttons::Busy => self.busy(contacts),
-        };
+        let phase = Phase::of(&self.record, Contacts(contacts).on(bit::SWITCHING), self.unfinished_before);
+        let turned = self.turn_of_mode(phase);
+        contacts ^= turned ^ self.buttons(phase, turned != 0);
+        if self.stretch.busy {
+            contacts ^= self.between(phase);
+        }
         let fault = self.outputs[19..=22].contains(&1);
-        let resets = if let Buttons::Busy = self.stretch.buttons { 8 } else { 25 };
+        let resets = if self.stretch.busy { 8 } else { 25 };
         if fault && self.dice.one_in(resets) {
             contacts |= 1 << bit::RESET;
         }
@@ -139,12 +140,34 @@ impl Scene {
         contacts
     }
 
-    /// What a busy operator presses, turns of the mode, and what comes between,
-    /// as contacts to turn over.
-    fn busy(&mut self, contacts: u32) -> u32 {
-        let closed = Contacts(contacts).on(bit::SWITCHING);
-        let phase = Phase::of(&self.record, closed, self.unfinished_before);
-        let mut turned = self.operator.press(&mut self.dice, phase) ^ in_between(&mut self.dice, phase);
+    /// A turn from local to remote mode or back, as a contact to turn over: for
+    /// this tick alone or for longer.
+    fn turn_of_mode(&mut self, phase: Phase) -> u32 {
+        if !remote_turns(&mut self.dice, phase, self.stretch.remote_turns) {
+            return 0;
+        }
+        if self.dice.one_in(2) {
+            self.stretch.contacts ^= 1 << bit::REMOTE;
+        }
+        1 << bit::REMOTE
+    }
+
+    /// What the operator at the panel and the dispatcher press; `turned` says that
+    /// the mode turns.
+    fn buttons(&mut self, phase: Phase, turned: bool) -> u32 {
+        let [panel, dispatcher] = [0, 1].map(|pair| match self.stretch.hands[pair] {
+            Hands::Still(bits) => bits,
+            Hands::Tapped if self.dice.one_in(6) => self.dice.pick(&[RAISE, LOWER]),
+            Hands::Tapped => 0,
+            Hands::Busy => self.operators[pair].press(&mut self.dice, phase, turned),
+        });
+        panel | dispatcher << (bit::REMOTE_RAISE - bit::RAISE_BUTTON)
+    }
+
+    /// What comes between while an operator is busy, and turns to automatic and
+    /// back, as contacts to turn over.
+    fn between(&mut self, phase: Phase) -> u32 {
+        let mut turned = in_between(&mut self.dice, phase);
         if phase != Phase::Rest && self.dice.one_in(self.stretch.mode_turns) {
             self.stretch.contacts ^= 1 << bit::AUTOMATIC;
             turned ^= 1 << bit::AUTOMATIC;

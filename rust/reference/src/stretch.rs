@@ -25,9 +25,9 @@ pub enum Level {
     Wander,
 }
 
-/// What the buttons do during a stretch.
+/// What happens to a pair of buttons during a stretch; the bits are the panel's.
 #[derive(Clone, Copy)]
-pub enum Buttons {
+pub enum Hands {
     Still(u32),
     Tapped,
     /// Pressed while the drive runs, by the operator.
@@ -43,7 +43,10 @@ pub struct Stretch {
     /// long as its pair.
     pub scalar_level: Option<Level>,
     pub temper: Temper,
-    pub buttons: Buttons,
+    /// At the panel, and the dispatcher's.
+    pub hands: [Hands; 2],
+    /// Whether the operator of the mode in which the stretch begins is busy.
+    pub busy: bool,
     pub others: Others,
     /// One tick in so many has other readings than the tick before.
     pub others_change: u32,
@@ -53,9 +56,11 @@ pub struct Stretch {
     pub unneeded_noise: u32,
     /// One tick in so many has a flipped contact.
     pub flips: u32,
-    /// With a busy operator, the mode turns over on one tick in so many of a
-    /// command or move.
+    /// With a busy operator, automatic and manual turn over on one tick in so many
+    /// of a command or move.
     pub mode_turns: u32,
+    /// Local and remote mode turn over on one tick in so many of a command or move.
+    pub remote_turns: u32,
 }
 
 /// The readings besides U_AB and its pair, in whole thousandths.
@@ -74,25 +79,29 @@ impl Stretch {
     pub fn new(dice: &mut Dice, settings: &Settings) -> Stretch {
         let contacts = steady_contacts(dice);
         let automatic = Contacts(contacts).on(bit::AUTOMATIC);
-        let buttons = buttons(dice, automatic);
+        let own = hands(dice, automatic);
+        let busy = matches!(own, Hands::Busy);
+        let other = other_hands(dice, busy);
         Stretch {
             left: dice.pick(&[1, 10, 100, 200, 300]) + dice.between(0, 100),
             contacts,
             level: if goes_by_u_comp(settings) && dice.one_in(5) { Level::BesideEdges } else { level(dice) },
             scalar_level: Some(level(dice)).filter(|_| !dice.one_in(3)),
-            temper: temper(dice, settings, buttons),
-            buttons,
+            temper: temper(dice, settings, busy),
+            hands: if Contacts(contacts).on(bit::REMOTE) { [other, own] } else { [own, other] },
+            busy,
             others: others(dice, settings),
             others_change: if goes_by_u_comp(settings) { dice.pick(&[100, 100, 100, 4]) } else { 100 },
             noise: dice.pick(&[0, 0, 0, 0, 200, 60, 10]),
             unneeded_noise: dice.pick(&[0, 0, 30, 3]),
             flips: dice.pick(&[0, 0, 0, 0, 300, 60, 10]),
             mode_turns: dice.pick(if automatic { &[8, 30] } else { &[0, 0, 20] }),
+            remote_turns: dice.pick(if busy { &[0, 0, 300, 90] } else { &[0, 0, 0, 300] }),
         }
     }
 }
 
-/// Breaker, mode, U_supp and now and then something that blocks.
+/// Breaker, modes, U_supp and now and then something that blocks.
 fn steady_contacts(dice: &mut Dice) -> u32 {
     let mut contacts = 0;
     if !dice.one_in(20) {
@@ -100,6 +109,9 @@ fn steady_contacts(dice: &mut Dice) -> u32 {
     }
     if !dice.one_in(3) {
         contacts |= 1 << bit::AUTOMATIC;
+    }
+    if dice.one_in(2) {
+        contacts |= 1 << bit::REMOTE;
     }
     if dice.one_in(4) {
         contacts |= dice.between(0, 7) << bit::U_SUPP2;
@@ -130,22 +142,34 @@ fn level(dice: &mut Dice) -> Level {
 }
 
 /// A busy operator often has a proper drive, so that more moves end well.
-fn temper(dice: &mut Dice, settings: &Settings, buttons: Buttons) -> Temper {
-    match (buttons, is_continuous(settings)) {
+fn temper(dice: &mut Dice, settings: &Settings, busy: bool) -> Temper {
+    match (busy, is_continuous(settings)) {
         (_, true) => dice.pick(&MOTOR_TEMPERS),
-        (Buttons::Busy, false) if dice.one_in(2) => Temper::Proper,
+        (true, false) if dice.one_in(2) => Temper::Proper,
         (_, false) => dice.pick(&TEMPERS),
     }
 }
 
-/// In manual stretches the operator is mostly busy, in automatic ones seldom.
-fn buttons(dice: &mut Dice, automatic: bool) -> Buttons {
+/// In manual stretches the operator of the mode's pair is mostly busy, in
+/// automatic ones seldom.
+fn hands(dice: &mut Dice, automatic: bool) -> Hands {
     match dice.between(0, 5) {
-        0 => Buttons::Still(dice.pick(&[RAISE, LOWER, RAISE | LOWER])),
-        1 if automatic => Buttons::Busy,
-        1..=4 if !automatic => Buttons::Busy,
-        2 => Buttons::Still(0),
-        _ => Buttons::Tapped,
+        0 => Hands::Still(dice.pick(&[RAISE, LOWER, RAISE | LOWER])),
+        1 if automatic => Hands::Busy,
+        1..=4 if !automatic => Hands::Busy,
+        2 => Hands::Still(0),
+        _ => Hands::Tapped,
+    }
+}
+
+/// The other pair is held all along, tapped or left alone; beside a busy operator
+/// there is often another one.
+fn other_hands(dice: &mut Dice, busy: bool) -> Hands {
+    match dice.between(0, 7) {
+        0..=3 if busy => Hands::Busy,
+        0..=3 => Hands::Still(0),
+        4 => Hands::Tapped,
+        _ => Hands::Still(dice.pick(&[RAISE, LOWER, RAISE | LOWER])),
     }
 }
 

@@ -226,7 +226,7 @@ fn a_watcher_agrees() {
     // By the number of slot 63.
     let mut commands = [0, 0];
     let mut carried_out = [0, 0];
-    for seed in 1_000..1_200 {
+    for seed in 1_000..1_300 {
         let mut scene = Scene::new(seed);
         let mut watcher = Watcher::new(scene.record.settings);
         for _ in 0..1_000 {
