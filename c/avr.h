@@ -134,8 +134,11 @@ enum avr_contact {
     AVR_CONTACT_U_SUPP2 = 1 << 16,       /* key: hold U_supp2 */
     AVR_CONTACT_U_SUPP3 = 1 << 17,       /* key: hold U_supp3, before U_supp2 */
     AVR_CONTACT_U_SUPP4 = 1 << 18,       /* key: hold U_supp4, before both */
-    AVR_CONTACT_RAISE_BUTTON = 1 << 19,  /* raise button pressed */
-    AVR_CONTACT_LOWER_BUTTON = 1 << 20   /* lower button pressed */
+    AVR_CONTACT_RAISE_BUTTON = 1 << 19,  /* the panel's raise button pressed; acts in local mode */
+    AVR_CONTACT_LOWER_BUTTON = 1 << 20,  /* the panel's lower button pressed; acts in local mode */
+    AVR_CONTACT_REMOTE = 1 << 21,        /* key: remote mode, the dispatcher's buttons act; else local, the panel's */
+    AVR_CONTACT_REMOTE_RAISE = 1 << 22,  /* the dispatcher's raise pressed; acts in remote mode */
+    AVR_CONTACT_REMOTE_LOWER = 1 << 23   /* the dispatcher's lower pressed; acts in remote mode */
 };
 
 /* The outputs of a tick, by field. */
@@ -255,9 +258,12 @@ typedef struct {
     uint32_t last;   /* enum avr_way: where the last ended move went */
     uint32_t counted_tap;
     uint32_t operations;
-    uint32_t raise_button; /* on the previous tick: 0 or 1 */
-    uint32_t lower_button; /* on the previous tick: 0 or 1 */
+    uint32_t raise_button; /* the panel's, on the previous tick: 0 or 1 */
+    uint32_t lower_button; /* the panel's, on the previous tick: 0 or 1 */
     uint32_t remembered;   /* enum avr_way: the press made in manual mode while the drive ran; none beside a fault */
+    uint32_t remote_raise; /* the dispatcher's, on the previous tick: 0 or 1 */
+    uint32_t remote_lower; /* the dispatcher's, on the previous tick: 0 or 1 */
+    uint32_t remote;       /* the mode of the previous tick: 0 local, 1 remote; a change drops a remembered press */
 } avr_image;
 
 /*
@@ -371,7 +377,10 @@ AVR_FOLLOWS(avr_image, operations, counted_tap);
 AVR_FOLLOWS(avr_image, raise_button, operations);
 AVR_FOLLOWS(avr_image, lower_button, raise_button);
 AVR_FOLLOWS(avr_image, remembered, lower_button);
-AVR_ENDS(avr_image, remembered);
+AVR_FOLLOWS(avr_image, remote_raise, remembered);
+AVR_FOLLOWS(avr_image, remote_lower, remote_raise);
+AVR_FOLLOWS(avr_image, remote, remote_lower);
+AVR_ENDS(avr_image, remote);
 
 AVR_ASSERT(sizeof(float) == sizeof(uint32_t), "float");
 AVR_FOLLOWS(avr_sample, value, quality);

@@ -80,6 +80,7 @@ static avr_brought brought(void) {
     in.u_ab_re.value = 70.0f;
     in.i_coupler_im.value = 1.0f;
     in.contacts = AVR_CONTACT_BREAKER_CLOSED | AVR_CONTACT_AUTOMATIC | AVR_CONTACT_RAISE_BUTTON;
+    in.contacts |= AVR_CONTACT_REMOTE | AVR_CONTACT_REMOTE_LOWER;
     in.bcd = 0x12;
     in.sensor = 13;
     return in;
@@ -94,6 +95,9 @@ static void hold_started(const avr_started *s, const uint32_t *list) {
     hold("the fresh raise button", s->image.raise_button, 1);
     hold("the fresh lower button", s->image.lower_button, 1);
     hold("the fresh remembered press", s->image.remembered, AVR_WAY_NEITHER);
+    hold("the dispatcher's fresh raise", s->image.remote_raise, 1);
+    hold("the dispatcher's fresh lower", s->image.remote_lower, 1);
+    hold("the fresh mode", s->image.remote, 0);
 }
 
 static void hold_image(const avr_image *m, const uint32_t *list) {
@@ -112,6 +116,9 @@ static void hold_image(const avr_image *m, const uint32_t *list) {
     hold("the raise button", m->raise_button, 1);
     hold("the lower button", m->lower_button, 0);
     hold("the remembered press", m->remembered, AVR_WAY_NEITHER);
+    hold("the dispatcher's raise", m->remote_raise, 0);
+    hold("the dispatcher's lower", m->remote_lower, 1);
+    hold("the mode", m->remote, 1);
 }
 
 /* Ticks between canaries, on a record with a remembered press, which the first one drops; then the same by value. */
@@ -138,7 +145,7 @@ static void hold_ticks(lent *l, const uint32_t *list) {
 /* A refused tick writes 0 to each output, and nothing else. */
 static void hold_refused(lent *l) {
     avr_brought in = brought();
-    l->image.remembered = AVR_WAY_LOWER + 1;
+    l->image.remote = 2;
     avr_image before = l->image;
     memset(&l->outputs, CANARY, sizeof l->outputs);
     hold("the answer to no record's image", avr_tick(&l->image, &in, &l->outputs), AVR_REFUSED_IMAGE);

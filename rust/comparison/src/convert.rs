@@ -33,6 +33,9 @@ pub fn image_of(record: &Record) -> Image {
         raise_button: u32::from(record.raise_button),
         lower_button: u32::from(record.lower_button),
         remembered: way(record.remembered),
+        remote_raise: u32::from(record.remote_raise),
+        remote_lower: u32::from(record.remote_lower),
+        remote: u32::from(record.remote),
     }
 }
 
@@ -74,6 +77,9 @@ pub fn record_of(image: &Image) -> Option<Record> {
         raise_button: flag(image.raise_button)?,
         lower_button: flag(image.lower_button)?,
         remembered: way_of(image.remembered)?,
+        remote_raise: flag(image.remote_raise)?,
+        remote_lower: flag(image.remote_lower)?,
+        remote: flag(image.remote)?,
     })
 }
 

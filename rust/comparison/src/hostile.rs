@@ -35,7 +35,7 @@ fn number(dice: &mut Dice, image: &Image, old: u32) -> u32 {
     }
 }
 
-/// A drive, a fault, a wait and a remembered press of their own, each about its limit.
+/// A drive, a fault, a wait and a remembered press of their own, each about its limit, and keys of the previous tick.
 fn drive_and_wait(dice: &mut Dice, settings: &Settings, image: &mut Image) {
     image.drive = drive(dice, settings);
     let rests = image.drive.kind == 0;
@@ -56,6 +56,10 @@ fn drive_and_wait(dice: &mut Dice, settings: &Settings, image: &mut Image) {
     image.repeat = dice.between(0, 2);
     image.last = dice.between(0, 2);
     image.remembered = if fault == 0 || dice.one_in(4) { dice.between(0, 2) } else { 0 };
+    let (panel, dispatcher) = ([&mut image.raise_button, &mut image.lower_button], [&mut image.remote_raise, &mut image.remote_lower]);
+    for key in panel.into_iter().chain(dispatcher).chain([&mut image.remote]) {
+        *key = dice.between(0, 1);
+    }
 }
 
 fn drive(dice: &mut Dice, settings: &Settings) -> DriveImage {

@@ -123,6 +123,29 @@ fn remembered_presses() {
     unit.hold(unit.image.remembered, "AVR_WAY_NEITHER");
 }
 
+/// The dispatcher's buttons act in remote mode, the panel's in local mode; the image has both pairs and the mode.
+#[test]
+fn two_pairs() {
+    let mut unit = Unit::new();
+    let keys = |unit: &Unit| [unit.image.remote_raise, unit.image.remote_lower, unit.image.remote];
+    assert_eq!(keys(&unit), [1, 1, 0]);
+    unit.contacts(&["BREAKER_CLOSED", "REMOTE"]);
+    unit.ticks(100.0, 1);
+    assert_eq!(keys(&unit), [0, 0, 1]);
+    unit.contacts(&["BREAKER_CLOSED", "REMOTE", "RAISE_BUTTON"]);
+    unit.ticks(100.0, 1);
+    unit.hold(unit.image.drive.kind, "AVR_DRIVE_RESTING");
+    unit.contacts(&["BREAKER_CLOSED", "REMOTE", "RAISE_BUTTON", "REMOTE_LOWER"]);
+    unit.ticks(100.0, 1);
+    assert_eq!(keys(&unit), [0, 1, 1]);
+    unit.hold(unit.image.drive.kind, "AVR_DRIVE_ASKED_MANUALLY");
+    unit.hold(unit.image.drive.direction, "AVR_DIRECTION_LOWER");
+    unit.contacts(&["BREAKER_CLOSED", "REMOTE_RAISE"]);
+    unit.ticks(100.0, 1);
+    assert_eq!(keys(&unit), [1, 0, 0]);
+    unit.hold(unit.image.remembered, "AVR_WAY_NEITHER");
+}
+
 #[test]
 fn waits() {
     let mut unit = Unit::new();

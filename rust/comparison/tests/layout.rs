@@ -86,19 +86,19 @@ fn a_started_image_is_written_whole() {
     let image = started.image;
     assert_eq!(image.settings, sheet);
     let words = image.words();
-    let memory = [sheet[slot::N_POS], sheet[slot::N_START], 1, 1, 0];
+    let memory = [sheet[slot::N_POS], sheet[slot::N_START], 1, 1, 0, 1, 1, 0];
     let (idle, end) = words[sheet.len()..].split_at(WORDS - sheet.len() - memory.len());
     assert!(idle.iter().all(|&n| n == 0));
     assert_eq!(end, memory);
-    let read = [image.counted_tap, image.operations, image.raise_button, image.lower_button, image.remembered];
-    assert_eq!(read, memory);
+    let Image { counted_tap, operations, raise_button, lower_button, remembered, remote_raise, remote_lower, remote, .. } = image;
+    assert_eq!([counted_tap, operations, raise_button, lower_button, remembered, remote_raise, remote_lower, remote], memory);
 }
 
-/// The last numbers of the image are the lower button's, 1 when fresh and 0 after a tick without it, and the remembered press,
-/// which a tick in automatic mode drops.
+/// The last numbers of the image are the dispatcher's lower, 1 when fresh and 0 after a tick without it, and the mode, which is
+/// that of the tick.
 #[test]
 fn a_lent_image_is_written_to_its_end() {
-    let mut image = Lent::of(Image { remembered: 2, ..fresh(&[]) });
+    let mut image = Lent::of(Image { remote: 1, ..fresh(&[]) });
     let mut outputs = Lent::<Outputs>::new();
     // SAFETY: three places that do not overlap.
     let answer = unsafe { boundary::avr_tick(image.place(), &idle(), outputs.place()) };
@@ -110,7 +110,7 @@ fn a_lent_image_is_written_to_its_end() {
 
 #[test]
 fn a_refused_tick_writes_each_output_and_no_more() {
-    let refused = Image { remembered: 3, ..fresh(&[]) };
+    let refused = Image { remote: 2, ..fresh(&[]) };
     let mut image = Lent::of(refused);
     let mut outputs = Lent::<Outputs>::new();
     // SAFETY: three places that do not overlap.
@@ -123,9 +123,9 @@ fn a_refused_tick_writes_each_output_and_no_more() {
 fn a_tick_by_value_is_written_whole() {
     let mut ticked = Lent::<Ticked>::new();
     // SAFETY: memory for the answer, and plain values.
-    unsafe { boundary::avr_tick_by_value(ticked.place(), Image { remembered: 1, ..fresh(&[]) }, idle()) };
+    unsafe { boundary::avr_tick_by_value(ticked.place(), Image { remote: 1, ..fresh(&[]) }, idle()) };
     let Ticked { refusal, outputs, next } = ticked.value();
-    assert_eq!((refusal, outputs.fields[FIELDS - 1], next.lower_button, next.remembered), (0, 1, 0, 0));
+    assert_eq!((refusal, outputs.fields[FIELDS - 1], next.remote_lower, next.remote), (0, 1, 0, 0));
     assert_eq!(next.settings, BASE);
 }
 
@@ -135,7 +135,7 @@ fn words_are_the_image() {
     let image = Image::from_words(std::array::from_fn(|at| at as u32));
     assert_eq!(image.words(), std::array::from_fn(|at| at as u32));
     assert_eq!(image.settings[0], 0);
-    assert_eq!(image.remembered as usize, WORDS - 1);
+    assert_eq!(image.remote as usize, WORDS - 1);
 }
 
 /// The trips of a tick with this one reading, in V or A, and no delay.

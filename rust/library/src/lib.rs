@@ -58,6 +58,9 @@ pub struct Image {
     pub raise_button: u32,
     pub lower_button: u32,
     pub remembered: u32,
+    pub remote_raise: u32,
+    pub remote_lower: u32,
+    pub remote: u32,
 }
 
 /// A reading: its quality, and a number in V or A, which counts as the nearest whole mV or mA, a half going up; a part of a pair
