@@ -56,7 +56,8 @@ fn drive_and_wait(dice: &mut Dice, settings: &Settings, image: &mut Image) {
     image.repeat = dice.between(0, 2);
     image.last = dice.between(0, 2);
     image.remembered = if fault == 0 || dice.one_in(4) { dice.between(0, 2) } else { 0 };
-    let (panel, dispatcher) = ([&mut image.raise_button, &mut image.lower_button], [&mut image.remote_raise, &mut image.remote_lower]);
+    let (panel, dispatcher) =
+        ([&mut image.raise_button, &mut image.lower_button], [&mut image.remote_raise, &mut image.remote_lower]);
     for key in panel.into_iter().chain(dispatcher).chain([&mut image.remote]) {
         *key = dice.between(0, 1);
     }

@@ -90,7 +90,8 @@ fn a_started_image_is_written_whole() {
     let (idle, end) = words[sheet.len()..].split_at(WORDS - sheet.len() - memory.len());
     assert!(idle.iter().all(|&n| n == 0));
     assert_eq!(end, memory);
-    let Image { counted_tap, operations, raise_button, lower_button, remembered, remote_raise, remote_lower, remote, .. } = image;
+    let Image { counted_tap, operations, raise_button, lower_button, remembered, remote_raise, remote_lower, remote, .. } =
+        image;
     assert_eq!([counted_tap, operations, raise_button, lower_button, remembered, remote_raise, remote_lower, remote], memory);
 }
 

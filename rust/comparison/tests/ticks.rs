@@ -4,7 +4,7 @@ use comparison::convert::{brought, image_of, record_of};
 use comparison::hostile::{senseless, tampered};
 use library::{start, tick, tick_by_value, Image, Outputs, Ticked, FIELDS};
 use reference::dice::Dice;
-use reference::input::Input;
+use reference::input::{bit, Contacts, Input};
 use reference::scene::Scene;
 use reference::sheet::{slot, Settings};
 use reference::tick::tick as second;
@@ -66,14 +66,42 @@ fn press(before: &Image, after: &Image) -> Option<usize> {
     }
 }
 
+/// What is tried of the two pairs: commands of each, one while the other pair is pressed, presses dropped by a change of mode, and
+/// buttons held through one at rest.
+const PAIRS: [&str; 5] =
+    ["by the panel", "by the dispatcher", "beside the other pair", "dropped by a change", "held through a change"];
+
+/// Which of these one tick was.
+fn pairs(before: &Image, contacts: Contacts, after: &Image) -> [bool; PAIRS.len()] {
+    let remote = contacts.on(bit::REMOTE);
+    let panel = [contacts.on(bit::RAISE_BUTTON), contacts.on(bit::LOWER_BUTTON)];
+    let dispatcher = [contacts.on(bit::REMOTE_RAISE), contacts.on(bit::REMOTE_LOWER)];
+    let (pair, other) = if remote { (dispatcher, panel) } else { (panel, dispatcher) };
+    let held = match remote {
+        true => [before.remote_raise, before.remote_lower],
+        false => [before.raise_button, before.lower_button],
+    };
+    let begins = before.drive.kind == 0 && after.drive.kind == 4;
+    let changed = u32::from(remote) != before.remote && !contacts.on(bit::OUT);
+    let still = pair.iter().zip(held).all(|(&now, before)| u32::from(now) <= before) && pair.contains(&true);
+    [
+        begins && !remote,
+        begins && remote,
+        begins && other.contains(&true),
+        changed && before.remembered != 0,
+        changed && still && before.drive.kind == 0 && !contacts.on(bit::AUTOMATIC),
+    ]
+}
+
 /// How often each output was on, how many commands began, how many ticks were low, in band or without U, and high with each way of
-/// compensation, and what became of presses with a switching contact and without.
+/// compensation, and what became of presses, and what was tried of the two pairs, with a switching contact and without.
 #[derive(Default)]
 struct Seen {
     on: [u64; FIELDS],
     commands: u64,
     sides: [[u64; 3]; WAYS.len()],
     presses: [[u64; PRESSES.len()]; 2],
+    pairs: [[u64; PAIRS.len()]; 2],
 }
 
 impl Seen {
@@ -104,8 +132,12 @@ fn run(seed: u64, dice: &mut Dice, seen: &mut Seen) {
         assert_eq!(outputs.fields, ticked.outputs, "{}", at());
         assert_eq!(image, image_of(&ticked.next), "{}", at());
         seen.add(way(&image.settings), &before, &outputs);
+        let kind = image.settings[slot::CONTINUOUS] as usize;
         if let Some(fate) = press(&record, &image) {
-            seen.presses[image.settings[slot::CONTINUOUS] as usize][fate] += 1;
+            seen.presses[kind][fate] += 1;
+        }
+        for (sum, tried) in seen.pairs[kind].iter_mut().zip(pairs(&record, input.contacts, &image)) {
+            *sum += u64::from(tried);
         }
     }
 }
@@ -121,9 +153,11 @@ fn runs() {
     println!("ticks with each output on: {:?}", seen.on);
     println!("ticks low, neither and high, compensated {}: {:?}", WAYS.join(", "), seen.sides);
     println!("presses {}, with the contact and without: {:?}", PRESSES.join(", "), seen.presses);
+    println!("the pairs, {}, with the contact and without: {:?}", PAIRS.join(", "), seen.pairs);
     assert!(seen.on.iter().all(|&n| n > 0), "an output never came on");
     assert!(seen.sides.iter().flatten().all(|&n| n > 100_000), "a way of compensation is seldom tried: {:?}", seen.sides);
     assert!(seen.presses.iter().flatten().all(|&n| n > 1_000), "a press in a move is seldom tried: {:?}", seen.presses);
+    assert!(seen.pairs.iter().flatten().all(|&n| n > 1_000), "a pair is seldom tried: {:?}", seen.pairs);
 }
 
 /// Records within their limits and outside, and images of no record: one tick, and the next ones where it is accepted.
