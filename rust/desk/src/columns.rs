@@ -86,10 +86,15 @@ pub fn header(cells: &[&str]) -> Result<Vec<Column>, String> {
 fn unknown(name: &str) -> String {
     let readings = (0..READINGS.len()).map(Column::Reading).chain((0..PAIRS.len()).map(Column::Phasor));
     let known = readings.chain((0..CONTACTS.len() as u32).map(Column::Contact));
-    match known.map(self::name).find(|known| known.eq_ignore_ascii_case(name)) {
-        Some(near) => format!("no column is called `{name}`; {near} is one"),
-        None => format!("no column is called `{name}`"),
-    }
+    let near = known.map(self::name).find(|known| known.eq_ignore_ascii_case(name)).map(|near| format!("; {near} is one"));
+    let hint = near.or_else(|| of_bit(name)).unwrap_or_default();
+    format!("no column is called `{name}`{hint}")
+}
+
+/// `bit21` was the column of bit 21 until that had a name.
+fn of_bit(name: &str) -> Option<String> {
+    let bit: usize = name.strip_prefix("bit")?.parse().ok()?;
+    CONTACTS.get(bit).map(|contact| format!("; bit {bit} is the column `{}`", contact.name))
 }
 
 /// Whether a column has a part of a pair, or both.

@@ -83,10 +83,13 @@ comment line. A column that is not there is 0.
                   as readings, and also below 0: `-0.4`. In place of two parts U_AB_phasor, I_bus_phasor or I_coupler_phasor,
                   magnitude and degrees: `0.8@-30`, `0.8@-30 held`, `invalid`. A current at -30 lags a U_AB at 0 by 30.
   contacts        breaker switching supply_off oil_cold oil_low oil_high end_up end_down ext_overcurrent ext_block
-                  ext_raise_block ext_lower_block reset out automatic local U_supp2 U_supp3 U_supp4 raise lower:
-                  1 or 0, on or off, closed or open. In manual mode a press of raise or lower while the drive runs is
-                  remembered, the latest one, and carried out at rest unless it is blocked then. A fault, automatic, local
-                  and out drop it.
+                  ext_raise_block ext_lower_block reset out automatic local U_supp2 U_supp3 U_supp4 raise lower remote
+                  remote_raise remote_lower: 1 or 0, on or off, closed or open. In manual mode the panel's raise and lower act
+                  while `remote` is off, local mode, and the dispatcher's remote_raise and remote_lower while it is on, remote
+                  mode; `local` is another key, of local drive: the drive is worked at its own place. A press of the pair that
+                  acts, made while the drive runs, is remembered, the latest one, and carried out at rest unless it is blocked
+                  then. A fault, automatic, local drive, out and a change between local and remote mode drop it. A button that
+                  is held as the mode changes is no press.
   BCD             the tap on the lines, `24`, or the lines themselves, `0x1a`
   sensor          0 to 255
   drive           the simulated drive: ok, does-not-start, runs-on (a move does not end), self-raise, self-lower (closes once

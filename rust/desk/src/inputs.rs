@@ -76,7 +76,7 @@ pub const SUPPLY_OFF: u32 = bit("supply_off");
 pub const RESET: u32 = bit("reset");
 pub const U_SUPP2: u32 = bit("U_supp2");
 
-/// By bit; the unit ignores those after `lower`.
+/// By bit; the unit ignores those after `remote_lower`. `local` is local drive, and `remote` off is local mode.
 pub const CONTACTS: [Contact; 32] = [
     contact("breaker", "breaker closed", "breaker open"),
     contact("switching", "switching contact closed", "switching contact open"),
@@ -99,9 +99,9 @@ pub const CONTACTS: [Contact; 32] = [
     contact("U_supp4", "key: U_supp4", "key: U_supp4 off"),
     contact("raise", "raise button pressed", "raise button released"),
     contact("lower", "lower button pressed", "lower button released"),
-    contact("bit21", "bit 21 set", "bit 21 clear"),
-    contact("bit22", "bit 22 set", "bit 22 clear"),
-    contact("bit23", "bit 23 set", "bit 23 clear"),
+    contact("remote", "key: remote mode", "key: local mode"),
+    contact("remote_raise", "dispatcher's raise pressed", "dispatcher's raise released"),
+    contact("remote_lower", "dispatcher's lower pressed", "dispatcher's lower released"),
     contact("bit24", "bit 24 set", "bit 24 clear"),
     contact("bit25", "bit 25 set", "bit 25 clear"),
     contact("bit26", "bit 26 set", "bit 26 clear"),

@@ -4,8 +4,8 @@ mod common;
 
 use std::fs;
 
-use common::{avr, err, examples, out, Folder};
-use desk::inputs::{PAIRS, READINGS};
+use common::{avr, between, err, examples, out, Folder};
+use desk::inputs::{CONTACTS, PAIRS, READINGS};
 use desk::{recording, sheet};
 use library::SLOTS;
 
@@ -63,9 +63,24 @@ fn help_tells_of_pairs_and_ratings() {
 #[test]
 fn help_tells_of_a_press_while_the_drive_runs() {
     let write = out(&avr(&["scenario", "write", "--help"]));
-    assert!(write.contains("a press of raise or lower while the drive runs is"));
+    assert!(write.contains("made while the drive runs, is remembered, the latest one, and carried out at rest"));
     let run = out(&avr(&["run", "--help"]));
     assert!(run.contains("and `unit` what it remembers: a press made while the drive\nruns."));
+}
+
+#[test]
+fn help_names_every_contact_and_tells_which_buttons_act() {
+    let write = out(&avr(&["scenario", "write", "--help"]));
+    let list = between(&write, "  contacts ", ": 1 or 0");
+    let names: Vec<&str> = CONTACTS.iter().map(|contact| contact.name).filter(|name| !name.starts_with("bit")).collect();
+    assert_eq!(list.split_whitespace().collect::<Vec<_>>(), names);
+    for words in [
+        "while `remote` is off, local mode",
+        "`local` is another key, of local drive",
+        "a change between local and remote mode drop it",
+    ] {
+        assert!(write.contains(words), "{words}");
+    }
 }
 
 #[test]

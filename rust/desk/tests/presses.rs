@@ -2,20 +2,9 @@
 
 mod common;
 
-use common::{check_texts, file};
+use common::check_texts;
+use common::runs::{told, Run, CONTINUOUS, GONE, IMPULSE, LOWER, RAISE};
 use desk::lanes::{self, Lane, Tip};
-use desk::picture::picture;
-use desk::play::{Player, Source};
-use desk::progress::Progress;
-use desk::run::{self, History};
-use desk::table::table;
-use desk::unit::start;
-use desk::{scenario, sheet};
-
-/// A drive with a contact: a move lasts 3.5 s from its command on.
-const IMPULSE: &str = "XB1 = on\nXB6 = counted\nT7 = 0.5 s\nN_pos = 9\nN_R = 17\n";
-/// A drive without one: a manual command lasts 3.5 s.
-const CONTINUOUS: &str = "XB1 = on\nXB2 = continuous\nXB6 = sensor\nT4 = 3.5 s\n";
 
 /// Raise at 1 s; in its move raise at 2 s and lower at 3 s.
 const BOTH: &str = "1,1\n1.3,0\n2,1\n2.3,0\n3,,1\n3.3,,0\n";
@@ -26,60 +15,19 @@ const BLOCKED: &str = "1,1\n1.3,0\n3,,1\n3.3,,0\n4,,,,1\n";
 /// Raise at 1 s, held through its move; then both at once, and lower at rest.
 const NONE: &str = "1,1\n5,0\n6,1,1\n6.3,0,0\n7,,1\n7.3,,0\n";
 
-struct Run {
-    list: Vec<u32>,
-    history: History,
+/// A run of these buttons, keys and blocks.
+fn run(sheet: &str, rows: &str) -> Run {
+    Run::new(sheet, "raise,lower,automatic,ext_lower_block", rows)
 }
-
-impl Run {
-    /// Ten seconds of these buttons, keys and blocks.
-    fn new(sheet: &str, rows: &str) -> Run {
-        let list = sheet::read(&file(sheet)).expect("a sheet").list;
-        let head = "seconds,raise,lower,automatic,ext_lower_block,U_AB,breaker,drive,drive_tap\n0,0,0,0,0,100,1,ok,9\n";
-        let scenario = scenario::read(&file(&format!("{head}{rows}10,end\n"))).expect("a scenario");
-        let source = Source::Scenario(Player::with_drive(&scenario, &list));
-        let unit = start(&list).expect("taken");
-        let history = run::run(unit, source, &mut Progress::usual(), |_| ()).expect("a run");
-        Run { list, history }
-    }
-
-    fn table(&self) -> String {
-        table(&self.history, &self.list, true)
-    }
-
-    fn picture(&self) -> String {
-        picture(&self.history, &self.list, "presses")
-    }
-
-    /// The ticks of the remembered press, with the words that the table has for it.
-    fn told(&self) -> Vec<(u32, String)> {
-        let (mut tick, mut told) = (0, Vec::new());
-        for line in self.table().lines().skip(1) {
-            tick = line[11..22].trim().parse().unwrap_or(tick);
-            if let Some(words) = line[24..].strip_prefix("unit ") {
-                told.push((tick, words.to_string()));
-            }
-        }
-        told
-    }
-}
-
-fn told(changes: &[(u32, &str)]) -> Vec<(u32, String)> {
-    changes.iter().map(|(tick, words)| (*tick, words.to_string())).collect()
-}
-
-const RAISE: &str = "raise press remembered";
-const LOWER: &str = "lower press remembered";
-const GONE: &str = "remembered press gone";
 
 /// The move ends on tick 901, and the command without a contact too; the tick after starts at rest.
 #[test]
 fn the_table_tells_each_change_on_its_tick() {
     for sheet in [IMPULSE, CONTINUOUS] {
-        assert_eq!(Run::new(sheet, BOTH).told(), told(&[(401, RAISE), (601, LOWER), (902, GONE)]), "{sheet}");
-        assert_eq!(Run::new(sheet, AUTOMATIC).told(), told(&[(401, RAISE), (601, GONE)]), "{sheet}");
-        assert_eq!(Run::new(sheet, BLOCKED).told(), told(&[(601, LOWER), (902, GONE)]), "{sheet}");
-        assert_eq!(Run::new(sheet, NONE).told(), told(&[]), "{sheet}");
+        assert_eq!(run(sheet, BOTH).told(), told(&[(401, RAISE), (601, LOWER), (902, GONE)]), "{sheet}");
+        assert_eq!(run(sheet, AUTOMATIC).told(), told(&[(401, RAISE), (601, GONE)]), "{sheet}");
+        assert_eq!(run(sheet, BLOCKED).told(), told(&[(601, LOWER), (902, GONE)]), "{sheet}");
+        assert_eq!(run(sheet, NONE).told(), told(&[]), "{sheet}");
     }
 }
 
@@ -118,7 +66,7 @@ fn it_stands_after_the_inputs_and_before_the_outputs() {
         (CONTINUOUS, BOTH, CARRIED_OUT_UNSEEN),
         (CONTINUOUS, AUTOMATIC, DROPPED),
     ] {
-        let table = Run::new(sheet, rows).table();
+        let table = run(sheet, rows).table();
         assert!(table.contains(lines), "{lines}\n{table}");
     }
 }
@@ -128,7 +76,7 @@ fn it_stands_after_the_inputs_and_before_the_outputs() {
 fn only_a_press_that_is_carried_out_has_its_command() {
     for sheet in [IMPULSE, CONTINUOUS] {
         for (rows, raised, lowered) in [(BOTH, 1, 1), (AUTOMATIC, 1, 0), (BLOCKED, 1, 0)] {
-            let table = Run::new(sheet, rows).table();
+            let table = run(sheet, rows).table();
             let count = |words: &str| table.matches(words).count();
             assert_eq!((count("RAISE command"), count("LOWER command")), (raised, lowered), "{table}");
         }
@@ -142,7 +90,7 @@ const DOWN: &str = "remembered: lower";
 fn the_picture_has_a_lane_where_a_press_was_remembered() {
     for sheet in [IMPULSE, CONTINUOUS] {
         for (rows, up, down) in [(BOTH, true, true), (AUTOMATIC, true, false), (BLOCKED, false, true), (NONE, false, false)] {
-            let text = Run::new(sheet, rows).picture();
+            let text = run(sheet, rows).picture();
             let drawn = |label: &str| text.contains(&format!(">{label}</text>"));
             assert_eq!((drawn(UP), drawn(DOWN)), (up, down), "{sheet}{rows}");
             check_texts("presses", &text);
@@ -158,7 +106,7 @@ fn its_lanes_last_as_long_as_it_does_and_point_its_way() {
         Tip::Down => "down",
     };
     for sheet in [IMPULSE, CONTINUOUS] {
-        let lanes = lanes::remembered(&Run::new(sheet, BOTH).history);
+        let lanes = lanes::remembered(&run(sheet, BOTH).history);
         let seen: Vec<_> =
             lanes.iter().map(|Lane { label, tip, on, .. }| (label.as_str(), mark(*tip), on.as_slice())).collect();
         assert_eq!(seen, [(UP, "up", [(401, 601)].as_slice()), (DOWN, "down", [(601, 902)].as_slice())], "{sheet}");
@@ -168,8 +116,5 @@ fn its_lanes_last_as_long_as_it_does_and_point_its_way() {
 /// The labels from the first contact's on are those of the contacts and keys, and then these.
 #[test]
 fn its_lanes_are_below_the_buttons() {
-    let text = Run::new(IMPULSE, BOTH).picture();
-    let labels: Vec<&str> = text.lines().filter_map(|line| line.strip_suffix("</text>")?.rsplit('>').next()).collect();
-    let first = labels.iter().position(|label| *label == "in: breaker").expect("the breaker's lane");
-    assert_eq!(labels[first..first + 5], ["in: breaker", "in: raise", "in: lower", UP, DOWN]);
+    assert_eq!(run(IMPULSE, BOTH).labels(5), ["in: breaker", "in: raise", "in: lower", UP, DOWN]);
 }

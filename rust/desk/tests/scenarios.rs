@@ -76,6 +76,9 @@ fn each_contact_has_its_bit() {
         "U_supp4",
         "raise",
         "lower",
+        "remote",
+        "remote_raise",
+        "remote_lower",
     ];
     for (bit, name) in names.iter().enumerate() {
         assert_eq!(ticks(&format!("ticks,{name}\n0,1\n1,end"))[0].contacts, 1 << bit, "{name}");
@@ -171,12 +174,17 @@ fn a_tick_has_its_bytes_in_the_order_of_the_format() {
 }
 
 /// A scenario, HEAD standing for a header, and what is told of it.
-const BAD_SCENARIOS: [(&str, &str); 35] = [
+const BAD_SCENARIOS: [(&str, &str); 40] = [
     ("", "file: no row is in it"),
     ("# nothing\n", "file: no row is in it"),
     ("time,U_AB\n0,1\n1,end", "file:1: the first column must be `seconds` or `ticks`, and not `time`"),
     ("ticks,U_AC\n0,1\n1,end", "file:1: no column is called `U_AC`"),
     ("ticks,u_ab\n0,1\n1,end", "file:1: no column is called `u_ab`; U_AB is one"),
+    ("ticks,Remote_raise\n0,1\n1,end", "file:1: no column is called `Remote_raise`; remote_raise is one"),
+    ("ticks,U_AB,bit21\n0,1,1\n1,end", "file:1: no column is called `bit21`; bit 21 is the column `remote`"),
+    ("ticks,bit22\n0,1\n1,end", "file:1: no column is called `bit22`; bit 22 is the column `remote_raise`"),
+    ("# old\nticks,bit23\n0,1\n1,end", "file:2: no column is called `bit23`; bit 23 is the column `remote_lower`"),
+    ("ticks,bit32\n0,1\n1,end", "file:1: no column is called `bit32`"),
     ("ticks,U_AB,U_AB\n0,1\n1,end", "file:1: the column `U_AB` is there twice"),
     ("ticks,drive_run\n0,1\n1,end", "file:1: the column `drive_run` needs a column `drive`"),
     (
