@@ -263,9 +263,16 @@ fn outputs(table: &str) -> Vec<String> {
 #[test]
 fn a_recording_of_an_example_runs_as_the_example_does() {
     let folder = Folder::new("replay");
-    for story in
-        ["two-steps", "sliding-tap", "long-move", "press-in-a-move", "continuous-in-band", "continuous-long", "long-feeder"]
-    {
+    for story in [
+        "two-steps",
+        "sliding-tap",
+        "long-move",
+        "press-in-a-move",
+        "panel-and-dispatcher",
+        "continuous-in-band",
+        "continuous-long",
+        "long-feeder",
+    ] {
         let place = |name: &str| examples().join(story).join(name).to_str().expect("a plain path").to_string();
         let (sheet, scenario, recording) = (place("sheet.txt"), place("scenario.csv"), folder.path("a.rec"));
         let written = avr(&["scenario", "write", &scenario, "--sheet", &sheet, "-o", &recording]);

@@ -6,7 +6,7 @@ use std::fs;
 
 use common::{avr, between, check_texts, err, examples, out, Folder};
 
-const STORIES: [&str; 16] = [
+const STORIES: [&str; 17] = [
     "acceleration",
     "band-edge",
     "breaker-rating",
@@ -19,6 +19,7 @@ const STORIES: [&str; 16] = [
     "manual-keys",
     "not-started",
     "organ-blocks",
+    "panel-and-dispatcher",
     "press-in-a-move",
     "run-away",
     "sliding-tap",
@@ -84,6 +85,7 @@ fn each_story_is_told() {
         ("sliding-tap", vec!["out  tap 10", "out  tap 11", "operations 2"]),
         ("manual-keys", vec!["raise button pressed", "out  RAISE command", "out  LOWER command"]),
         ("press-in-a-move", vec![AGAIN, LATEST, RAISE_BLOCKED, MADE_AUTOMATIC]),
+        ("panel-and-dispatcher", vec![PANEL_ACTS, DISPATCHER_ACTS, DISPATCHERS_LOWER, MADE_LOCAL]),
         ("organ-blocks", vec!["TRIP: I_bus over I_set2", "out  automatic blocked", "out  automatic free"]),
         ("band-edge", vec!["U_AB 100.0994 V\n     40.005", "U_AB 100.1 V\n                        out  voltage high"]),
         ("compensation", vec!["I_bus 0.4 A\n                        out  voltage low"]),
@@ -185,11 +187,56 @@ const MADE_AUTOMATIC: &str = "\
      60.000      12000  end
 ";
 
-/// Its table and its picture, and no other's.
+/// Local mode: nothing for the dispatcher, a command for the panel.
+const PANEL_ACTS: &str = "\
+      2.005        401  in   dispatcher's raise pressed
+      2.505        501  in   dispatcher's raise released
+      6.005       1201  in   raise button pressed
+                        out  RAISE command
+";
+
+/// Nothing for a button that is held as remote mode begins, nor for the panel; a command for the button pressed anew.
+const DISPATCHER_ACTS: &str = "\
+     16.005       3201  in   dispatcher's raise pressed
+     18.005       3601  in   key: remote mode
+     21.005       4201  in   dispatcher's raise released
+     23.005       4601  in   lower button pressed
+     23.505       4701  in   lower button released
+     26.005       5201  in   dispatcher's raise pressed
+                        out  RAISE command
+";
+
+/// Pressed in the move and carried out at rest.
+const DISPATCHERS_LOWER: &str = "\
+     29.005       5801  in   dispatcher's lower pressed
+                        unit lower press remembered
+     29.505       5901  in   dispatcher's lower released
+     32.505       6501  in   U_AB 100.5 V
+                        in   switching contact open
+                        out  drive at rest
+     32.510       6502  unit remembered press gone
+                        out  LOWER command
+";
+
+/// Dropped by the change of mode, after which no command follows.
+const MADE_LOCAL: &str = "\
+     35.005       7001  in   dispatcher's raise pressed
+                        unit raise press remembered
+     35.505       7101  in   dispatcher's raise released
+     37.005       7401  in   key: local mode
+                        unit remembered press gone
+     39.010       7802  in   U_AB 100 V
+                        in   switching contact open
+                        out  drive at rest
+     39.015       7803  out  tap 10
+     50.000      10000  end
+";
+
+/// Their tables and their pictures, and no other's.
 #[test]
-fn one_story_tells_of_a_remembered_press() {
+fn two_stories_tell_of_a_remembered_press() {
     for story in STORIES {
-        let told = story == "press-in-a-move";
+        let told = ["panel-and-dispatcher", "press-in-a-move"].contains(&story);
         assert_eq!(read(story, "table.txt").contains(" unit "), told, "{story}");
         assert_eq!(read(story, "picture.svg").contains(">remembered: "), told, "{story}");
     }
