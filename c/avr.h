@@ -241,6 +241,15 @@ typedef struct {
     uint32_t ticks; /* ticks waited so far */
 } avr_wait;
 
+/* The keys of the previous tick. */
+typedef struct {
+    uint32_t raise_button; /* the panel's: 0 or 1 */
+    uint32_t lower_button; /* the panel's: 0 or 1 */
+    uint32_t remote_raise; /* the dispatcher's: 0 or 1 */
+    uint32_t remote_lower; /* the dispatcher's: 0 or 1 */
+    uint32_t remote;       /* the mode: 0 local, 1 remote; a change of it drops a remembered press */
+} avr_keys;
+
 /*
  * The image of a record, without padding. Each record has exactly one image.
  * An image with another number where a comment names an enum or 0 and 1 is no
@@ -258,12 +267,8 @@ typedef struct {
     uint32_t last;   /* enum avr_way: where the last ended move went */
     uint32_t counted_tap;
     uint32_t operations;
-    uint32_t raise_button; /* the panel's, on the previous tick: 0 or 1 */
-    uint32_t lower_button; /* the panel's, on the previous tick: 0 or 1 */
-    uint32_t remembered;   /* enum avr_way: the press made in manual mode while the drive ran; none beside a fault */
-    uint32_t remote_raise; /* the dispatcher's, on the previous tick: 0 or 1 */
-    uint32_t remote_lower; /* the dispatcher's, on the previous tick: 0 or 1 */
-    uint32_t remote;       /* the mode of the previous tick: 0 local, 1 remote; a change drops a remembered press */
+    avr_keys keys;
+    uint32_t remembered; /* enum avr_way: the press made in manual mode while the drive ran; none beside a fault */
 } avr_image;
 
 /*
@@ -363,6 +368,11 @@ AVR_FOLLOWS(avr_drive, ticks, direction);
 AVR_ENDS(avr_drive, ticks);
 AVR_FOLLOWS(avr_wait, ticks, side);
 AVR_ENDS(avr_wait, ticks);
+AVR_FOLLOWS(avr_keys, lower_button, raise_button);
+AVR_FOLLOWS(avr_keys, remote_raise, lower_button);
+AVR_FOLLOWS(avr_keys, remote_lower, remote_raise);
+AVR_FOLLOWS(avr_keys, remote, remote_lower);
+AVR_ENDS(avr_keys, remote);
 
 AVR_FOLLOWS(avr_image, organ_marks, settings);
 AVR_FOLLOWS(avr_image, organ_counts, organ_marks);
@@ -374,13 +384,9 @@ AVR_FOLLOWS(avr_image, repeat, wait);
 AVR_FOLLOWS(avr_image, last, repeat);
 AVR_FOLLOWS(avr_image, counted_tap, last);
 AVR_FOLLOWS(avr_image, operations, counted_tap);
-AVR_FOLLOWS(avr_image, raise_button, operations);
-AVR_FOLLOWS(avr_image, lower_button, raise_button);
-AVR_FOLLOWS(avr_image, remembered, lower_button);
-AVR_FOLLOWS(avr_image, remote_raise, remembered);
-AVR_FOLLOWS(avr_image, remote_lower, remote_raise);
-AVR_FOLLOWS(avr_image, remote, remote_lower);
-AVR_ENDS(avr_image, remote);
+AVR_FOLLOWS(avr_image, keys, operations);
+AVR_FOLLOWS(avr_image, remembered, keys);
+AVR_ENDS(avr_image, remembered);
 
 AVR_ASSERT(sizeof(float) == sizeof(uint32_t), "float");
 AVR_FOLLOWS(avr_sample, value, quality);

@@ -92,12 +92,12 @@ static void hold_started(const avr_started *s, const uint32_t *list) {
     hold("the settings' difference", memcmp(s->image.settings, list, sizeof s->image.settings) != 0, 0);
     hold("the fresh counted tap", s->image.counted_tap, list[AVR_SLOT_N_POS]);
     hold("the fresh operations", s->image.operations, list[AVR_SLOT_N_START]);
-    hold("the fresh raise button", s->image.raise_button, 1);
-    hold("the fresh lower button", s->image.lower_button, 1);
+    hold("the fresh raise button", s->image.keys.raise_button, 1);
+    hold("the fresh lower button", s->image.keys.lower_button, 1);
+    hold("the dispatcher's fresh raise", s->image.keys.remote_raise, 1);
+    hold("the dispatcher's fresh lower", s->image.keys.remote_lower, 1);
+    hold("the fresh mode", s->image.keys.remote, 0);
     hold("the fresh remembered press", s->image.remembered, AVR_WAY_NEITHER);
-    hold("the dispatcher's fresh raise", s->image.remote_raise, 1);
-    hold("the dispatcher's fresh lower", s->image.remote_lower, 1);
-    hold("the fresh mode", s->image.remote, 0);
 }
 
 static void hold_image(const avr_image *m, const uint32_t *list) {
@@ -113,12 +113,12 @@ static void hold_image(const avr_image *m, const uint32_t *list) {
     hold("the last direction", m->last, AVR_WAY_NEITHER);
     hold("the counted tap", m->counted_tap, list[AVR_SLOT_N_POS]);
     hold("the operations", m->operations, list[AVR_SLOT_N_START]);
-    hold("the raise button", m->raise_button, 1);
-    hold("the lower button", m->lower_button, 0);
+    hold("the raise button", m->keys.raise_button, 1);
+    hold("the lower button", m->keys.lower_button, 0);
+    hold("the dispatcher's raise", m->keys.remote_raise, 0);
+    hold("the dispatcher's lower", m->keys.remote_lower, 1);
+    hold("the mode", m->keys.remote, 1);
     hold("the remembered press", m->remembered, AVR_WAY_NEITHER);
-    hold("the dispatcher's raise", m->remote_raise, 0);
-    hold("the dispatcher's lower", m->remote_lower, 1);
-    hold("the mode", m->remote, 1);
 }
 
 /* Ticks between canaries, on a record with a remembered press, which the first one drops; then the same by value. */
@@ -145,7 +145,7 @@ static void hold_ticks(lent *l, const uint32_t *list) {
 /* A refused tick writes 0 to each output, and nothing else. */
 static void hold_refused(lent *l) {
     avr_brought in = brought();
-    l->image.remote = 2;
+    l->image.remembered = AVR_WAY_LOWER + 1;
     avr_image before = l->image;
     memset(&l->outputs, CANARY, sizeof l->outputs);
     hold("the answer to no record's image", avr_tick(&l->image, &in, &l->outputs), AVR_REFUSED_IMAGE);

@@ -19,8 +19,10 @@ use Rattle.fault.specs.declared.Fault.the-variants.{NoFault, RunAway, NotStarte
 use Rattle.command.specs.declared.Wait.{Wait}
 use Rattle.command.specs.declared.Wait.the-variants.{Idle, For}
 use Rattle.coding.specs.declared.DriveImage.{DriveImage}
+use Rattle.command.specs.declared.pairs.Keys.{Keys}
 use Rattle.coding.specs.declared.WaitImage.{WaitImage}
-use Rattle.coding.specs.Numbers.{bitOf, isBit, directionNumber, directionOf, wayNumber, isWay, wayOf, faultNumber, isFault, faultOf, askedNumber, moveNumber, driveImage, driveOf, isDrive, waitImage, waitOf, isWait}
+use Rattle.coding.specs.declared.KeyImage.{KeyImage}
+use Rattle.coding.specs.Numbers.{bitOf, isBit, directionNumber, directionOf, wayNumber, isWay, wayOf, faultNumber, isFault, faultOf, askedNumber, moveNumber, driveImage, driveOf, isDrive, waitImage, waitOf, isWait, keyImage, keysOf, areKeys}
 
 -- a flag
 pub bit-back : (b : Bool) → eqb (bitOf b) 1 ≡ b
@@ -164,6 +166,48 @@ wait-at (suc (suc (suc s))) n p = absurd (omega (arith, leb-true (suc (suc (suc 
 
 pub wait-same : (m : WaitImage) → isWait m ≡ true → waitImage (waitOf m) ≡ m
 wait-same m p = wait-at (m .side) (m .ticks) p
+
+-- the keys
+pub keys-back : (k : Keys) → keysOf (keyImage k) ≡ k
+unfolding keyImage keysOf
+keys-back k =
+    rw (
+      bit-back (k .panel .raise),
+      bit-back (k .panel .lower),
+      bit-back (k .dispatcher .raise),
+      bit-back (k .dispatcher .lower),
+      bit-back (k .remote),
+    )
+
+pub keys-are : (k : Keys) → areKeys (keyImage k) ≡ true
+unfolding keyImage
+keys-are k =
+    rw (
+      bit-is (k .panel .raise),
+      bit-is (k .panel .lower),
+      bit-is (k .dispatcher .raise),
+      bit-is (k .dispatcher .lower),
+      bit-is (k .remote),
+    )
+
+pub keys-same : (m : KeyImage) → areKeys m ≡ true → keyImage (keysOf m) ≡ m
+unfolding keyImage keysOf
+keys-same m p =
+    let raise = isBit (m .«raise_button») in
+    let lower = isBit (m .«lower_button») in
+    let far-raise = isBit (m .«remote_raise») in
+    let far-lower = isBit (m .«remote_lower») in
+    let remote = isBit (m .remote) in
+    let pairs : (raise && lower && (far-raise && far-lower)) ≡ true = and-left _ remote p in
+    let panel : (raise && lower) ≡ true = and-left _ (far-raise && far-lower) pairs in
+    let dispatcher : (far-raise && far-lower) ≡ true = and-right (raise && lower) _ pairs in
+    rw (
+      bit-same _ (and-left raise lower panel),
+      bit-same _ (and-right raise lower panel),
+      bit-same _ (and-left far-raise far-lower dispatcher),
+      bit-same _ (and-right far-raise far-lower dispatcher),
+      bit-same _ (and-right (raise && lower && (far-raise && far-lower)) remote p),
+    )
 
 -- ---- the same over plain values, as `search` asks it
 

@@ -1,4 +1,4 @@
--- The record's enums in numbers: the number of each case, and the case of each number. Definitions only.
+-- The record's enums and keys in numbers: the number of each case, and the case of each number. Definitions only.
 use Prim.Native.Nat.{ℕ}
 use mathlib.Core.Bool.{Bool, true, false, not, _&&_, _||_}
 use lib.Dec.{leb, eqb}
@@ -14,7 +14,9 @@ use Rattle.fault.specs.declared.Fault.the-variants.{NoFault, RunAway, NotStarte
 use Rattle.command.specs.declared.Wait.{Wait}
 use Rattle.command.specs.declared.Wait.the-variants.{Idle, For}
 use Rattle.coding.specs.declared.DriveImage.{DriveImage}
+use Rattle.command.specs.declared.pairs.Keys.{Keys}
 use Rattle.coding.specs.declared.WaitImage.{WaitImage}
+use Rattle.coding.specs.declared.KeyImage.{KeyImage}
 
 -- ---- a flag, a direction, a way, a fault
 
@@ -97,3 +99,30 @@ waitOf m = choose (eqb (m .side) 0) Idle (choose (eqb (m .side) 1) (For Raise (m
 -- the numbers are some wait's: zeros without one
 abbrev pub isWait : WaitImage → Bool
 isWait m = leb (m .side) 2 && (not (eqb (m .side) 0) || eqb (m .ticks) 0)
+
+-- ---- the keys of the previous tick
+
+unfoldable pub keyImage : Keys → KeyImage
+keyImage k =
+    record {
+      «raise_button» = bitOf (k .panel .raise);
+      «lower_button» = bitOf (k .panel .lower);
+      «remote_raise» = bitOf (k .dispatcher .raise);
+      «remote_lower» = bitOf (k .dispatcher .lower);
+      remote = bitOf (k .remote);
+    }
+
+unfoldable pub keysOf : KeyImage → Keys
+keysOf m =
+    record {
+      panel = record { raise = eqb (m .«raise_button») 1; lower = eqb (m .«lower_button») 1 };
+      dispatcher = record { raise = eqb (m .«remote_raise») 1; lower = eqb (m .«remote_lower») 1 };
+      remote = eqb (m .remote) 1;
+    }
+
+-- the numbers are some keys'
+abbrev pub areKeys : KeyImage → Bool
+areKeys m =
+    isBit (m .«raise_button») && isBit (m .«lower_button»)
+    && (isBit (m .«remote_raise») && isBit (m .«remote_lower»))
+    && isBit (m .remote)

@@ -1,4 +1,4 @@
-// The record's enums in numbers, and back; which numbers stand for a case.
+// The record's enums and keys in numbers, and back; which numbers stand for a case.
 ghost use mathlib.Core.Path.{_≡_};
 ghost use Rattle.coding.specs.Numbers.{
   directionNumber,
@@ -15,8 +15,13 @@ ghost use Rattle.coding.specs.Numbers.{
   waitImage,
   waitOf,
   isWait,
+  keyImage,
+  keysOf,
+  areKeys,
 };
+use command::Buttons;
 use command::Wait;
+use command::pairs::Keys;
 use drive::Drive;
 use fault::Fault;
 use ways::Direction;
@@ -36,6 +41,16 @@ pub struct DriveImage {
 pub struct WaitImage {
     pub side: u32,
     pub ticks: u32,
+}
+
+// The keys of the previous tick, each 0 or 1: the panel's two buttons, the dispatcher's, and the mode, 1 being remote.
+#[repr(C)]
+pub struct KeyImage {
+    pub raise_button: u32,
+    pub lower_button: u32,
+    pub remote_raise: u32,
+    pub remote_lower: u32,
+    pub remote: u32,
 }
 
 fn direction_number(d: Direction) -> u32
@@ -228,4 +243,43 @@ pub fn is_wait(m: WaitImage) -> bool
     ensures { λ b. ⌜ b ≡ isWait m ⌝ }
 {
     (m.side <= 2) & (!(m.side == 0) | (m.ticks == 0))
+}
+
+pub fn key_image(k: Keys) -> KeyImage
+    ensures { λ m. ⌜ m ≡ keyImage k ⌝ }
+{
+    let panel = k.panel;
+    let dispatcher = k.dispatcher;
+    KeyImage {
+        raise_button: panel.raise as u32,
+        lower_button: panel.lower as u32,
+        remote_raise: dispatcher.raise as u32,
+        remote_lower: dispatcher.lower as u32,
+        remote: k.remote as u32,
+    }
+}
+
+pub fn keys_of(m: KeyImage) -> Keys
+    ensures { λ k. ⌜ k ≡ keysOf m ⌝ }
+{
+    Keys {
+        panel: Buttons {
+            raise: m.raise_button == 1,
+            lower: m.lower_button == 1,
+        },
+        dispatcher: Buttons {
+            raise: m.remote_raise == 1,
+            lower: m.remote_lower == 1,
+        },
+        remote: m.remote == 1,
+    }
+}
+
+// Whether the numbers are some keys'.
+pub fn are_keys(m: KeyImage) -> bool
+    ensures { λ b. ⌜ b ≡ areKeys m ⌝ }
+{
+    let panel = (m.raise_button <= 1) & (m.lower_button <= 1);
+    let dispatcher = (m.remote_raise <= 1) & (m.remote_lower <= 1);
+    panel & dispatcher & (m.remote <= 1)
 }

@@ -21,18 +21,18 @@ use Rattle.image.specs.declared.FromImage.{FromImage}
 use Rattle.coding.specs.declared.DriveImage.{DriveImage}
 use Rattle.coding.specs.declared.WaitImage.{WaitImage}
 use Rattle.image.specs.declared.images.WayNumbers.{WayNumbers}
-use Rattle.image.specs.declared.images.KeyNumbers.{KeyNumbers}
+use Rattle.coding.specs.declared.KeyImage.{KeyImage}
 use Rattle.image.specs.declared.places.OrganNumbers.{OrganNumbers}
-use Rattle.coding.specs.Numbers.{isBit, isWay, wayOf, faultNumber, isFault, faultOf, driveImage, driveOf, isDrive, waitImage, waitOf, isWait}
+use Rattle.coding.specs.Numbers.{isWay, wayOf, faultNumber, isFault, faultOf, driveImage, driveOf, isDrive, waitImage, waitOf, isWait, keyImage, keysOf, areKeys}
 use Rattle.image.specs.Places.{organNumbers, organsOf, areMarks}
-use Rattle.image.specs.Images.{wayNumbers, keyNumbers, imageOf, areKeys, isRecord, keysOf, stateOf, takenOf, recordOf}
-use Rattle.coding.proofs.Cases.{bit-back, bit-is, bit-same, way-back, way-is, way-same, fault-back, fault-is, fault-same, drive-back, drive-is, drive-same, wait-back, wait-is, wait-same}
+use Rattle.image.specs.Images.{wayNumbers, imageOf, isRecord, stateOf, takenOf, recordOf}
+use Rattle.coding.proofs.Cases.{way-back, way-is, way-same, fault-back, fault-is, fault-same, drive-back, drive-is, drive-same, wait-back, wait-is, wait-same, keys-back, keys-are, keys-same}
 use Rattle.image.proofs.Organs.{organs-back, organs-are, marks-same, counts-same}
 
 -- ---- from the record
 
 pub state-back : (r : Regulator) → stateOf (imageOf r) ≡ r
-unfolding stateOf keysOf imageOf wayNumbers keyNumbers
+unfolding stateOf imageOf wayNumbers
 state-back r =
     rw (
       organs-back (r .organs),
@@ -41,16 +41,12 @@ state-back r =
       wait-back (r .wait),
       way-back (r .repeat),
       way-back (r .last),
-      bit-back (r .keys .panel .raise),
-      bit-back (r .keys .panel .lower),
-      bit-back (r .keys .dispatcher .raise),
-      bit-back (r .keys .dispatcher .lower),
-      bit-back (r .keys .remote),
+      keys-back (r .keys),
       way-back (r .remembered),
     )
 
 pub image-is : (r : Regulator) → isRecord (imageOf r) ≡ true
-unfolding isRecord areKeys imageOf wayNumbers keyNumbers
+unfolding isRecord imageOf wayNumbers
 image-is r =
     rw (
       organs-are (r .organs),
@@ -60,11 +56,7 @@ image-is r =
       way-is (r .repeat),
       way-is (r .last),
       way-is (r .remembered),
-      bit-is (r .keys .panel .raise),
-      bit-is (r .keys .panel .lower),
-      bit-is (r .keys .dispatcher .raise),
-      bit-is (r .keys .dispatcher .lower),
-      bit-is (r .keys .remote),
+      keys-are (r .keys),
     )
 
 pub back : (r : Regulator) → recordOf (imageOf r) ≡ takenOf r
@@ -73,40 +65,12 @@ back r = rw (image-is r, state-back r)
 
 -- ---- from the image
 
-pub keys-same : (m : Image) → areKeys m ≡ true
-    → _≡_ {A = KeyNumbers}
-    (keyNumbers (keysOf m))
-    (record {
-      «raise_button» = m .«raise_button»;
-      «lower_button» = m .«lower_button»;
-      «remote_raise» = m .«remote_raise»;
-      «remote_lower» = m .«remote_lower»;
-      remote = m .remote;
-    })
-unfolding areKeys keyNumbers keysOf
-keys-same m p =
-    let raise = isBit (m .«raise_button») in
-    let lower = isBit (m .«lower_button») in
-    let far-raise = isBit (m .«remote_raise») in
-    let far-lower = isBit (m .«remote_lower») in
-    let remote = isBit (m .remote) in
-    let pairs : (raise && lower && (far-raise && far-lower)) ≡ true = and-left _ remote p in
-    let panel : (raise && lower) ≡ true = and-left _ (far-raise && far-lower) pairs in
-    let dispatcher : (far-raise && far-lower) ≡ true = and-right (raise && lower) _ pairs in
-    rw (
-      bit-same _ (and-left raise lower panel),
-      bit-same _ (and-right raise lower panel),
-      bit-same _ (and-left far-raise far-lower dispatcher),
-      bit-same _ (and-right far-raise far-lower dispatcher),
-      bit-same _ (and-right (raise && lower && (far-raise && far-lower)) remote p),
-    )
-
 module _ (m : Image) (p : isRecord m ≡ true) where
   -- what the test says of each part
   abbrev Parts : Type 0
   Parts =
       (areMarks (m .«organ_marks») ≡ true) × (isDrive (m .drive) ≡ true) × (isFault (m .fault) ≡ true) × (isWait (m .wait) ≡ true)
-      × (isWay (m .repeat) ≡ true) × (isWay (m .last) ≡ true) × (isWay (m .remembered) ≡ true) × (areKeys m ≡ true)
+      × (isWay (m .repeat) ≡ true) × (isWay (m .last) ≡ true) × (isWay (m .remembered) ≡ true) × (areKeys (m .keys) ≡ true)
 
   parts : Parts
   unfolding isRecord
@@ -118,7 +82,7 @@ module _ (m : Image) (p : isRecord m ≡ true) where
       let repeat = isWay (m .repeat) in
       let last = isWay (m .last) in
       let remembered = isWay (m .remembered) in
-      let keys = areKeys m in
+      let keys = areKeys (m .keys) in
       let rest : (marks && drive && fault && wait && (repeat && last && remembered)) ≡ true = and-left _ keys p in
       let ways : (repeat && last && remembered) ≡ true = and-right (marks && drive && fault && wait) (repeat && last && remembered) rest in
       let sides : (repeat && last) ≡ true = and-left _ remembered ways in
@@ -147,15 +111,15 @@ module _ (m : Image) (p : isRecord m ≡ true) where
         way-same _ (parts .4),
         way-same _ (parts .5),
         way-same _ (parts .6),
-        keys-same m (parts .7),
+        keys-same _ (parts .7),
       )
 
 -- ---- over plain values, as the functions ask it
 
-module _ (r : Regulator) {n : OrganNumbers} {d : DriveImage} {f : ℕ} {w : WaitImage} {u : WayNumbers} {k : KeyNumbers} where
+module _ (r : Regulator) {n : OrganNumbers} {d : DriveImage} {f : ℕ} {w : WaitImage} {u : WayNumbers} {k : KeyImage} where
   pub image-made : n ≡ organNumbers (r .organs) → d ≡ driveImage (r .drive) → f ≡ faultNumber (r .latch .fault) → w ≡ waitImage (r .wait)
       → u ≡ wayNumbers r
-      → k ≡ keyNumbers (r .keys)
+      → k ≡ keyImage (r .keys)
       → _≡_ {A = Image}
       (record {
         settings = r .settings;
@@ -169,12 +133,8 @@ module _ (r : Regulator) {n : OrganNumbers} {d : DriveImage} {f : ℕ} {w : Wait
         last = u .last;
         «counted_tap» = r .«counted_tap»;
         operations = r .operations;
-        «raise_button» = k .«raise_button»;
-        «lower_button» = k .«lower_button»;
+        keys = k;
         remembered = u .remembered;
-        «remote_raise» = k .«remote_raise»;
-        «remote_lower» = k .«remote_lower»;
-        remote = k .remote;
       })
       (imageOf r)
   unfolding imageOf
@@ -185,7 +145,7 @@ module _ (m : Image) {os : List Organ} {d : Drive} {f : Fault} {w : Wait} {again
       → again ≡ wayOf (m .repeat)
       → last ≡ wayOf (m .last)
       → press ≡ wayOf (m .remembered)
-      → k ≡ keysOf m
+      → k ≡ keysOf (m .keys)
       → _≡_ {A = Regulator}
       (record {
         settings = m .settings;

@@ -1,11 +1,9 @@
 // The image of a record, and the record of an image.
 ghost use mathlib.Core.Path.{_≡_};
 ghost use mathlib.Core.Bool.{true};
-ghost use Rattle.image.specs.Images.{wayNumbers, keyNumbers, imageOf, areKeys, isRecord, keysOf, stateOf, takenOf, recordOf};
+ghost use Rattle.image.specs.Images.{wayNumbers, imageOf, isRecord, stateOf, takenOf, recordOf};
 use crate::FromImage;
 use crate::Image;
-use command::Buttons;
-use command::pairs::Keys;
 use fault::Latch;
 use record::Regulator;
 
@@ -32,29 +30,6 @@ fn way_numbers(r: Regulator) -> WayNumbers
     }
 }
 
-// The keys of the previous tick, in numbers.
-struct KeyNumbers {
-    raise_button: u32,
-    lower_button: u32,
-    remote_raise: u32,
-    remote_lower: u32,
-    remote: u32,
-}
-
-fn key_numbers(k: Keys) -> KeyNumbers
-    ensures { λ n. ⌜ n ≡ keyNumbers k ⌝ }
-{
-    let panel = k.panel;
-    let dispatcher = k.dispatcher;
-    KeyNumbers {
-        raise_button: panel.raise as u32,
-        lower_button: panel.lower as u32,
-        remote_raise: dispatcher.raise as u32,
-        remote_lower: dispatcher.lower as u32,
-        remote: k.remote as u32,
-    }
-}
-
 // The one image of a record. It gives the record back.
 pub fn image_of(r: Regulator) -> Image
     ensures each { λ m. ⌜ m ≡ imageOf r ⌝ }
@@ -74,7 +49,7 @@ pub fn image_of(r: Regulator) -> Image
     let fault = coding::fault_number(f);
     let wait = coding::wait_image(w);
     let ways = way_numbers(r);
-    let keys = key_numbers(k);
+    let keys = coding::key_image(k);
     Image {
         settings: settings,
         organ_marks: marks,
@@ -87,22 +62,9 @@ pub fn image_of(r: Regulator) -> Image
         last: ways.last,
         counted_tap: r.counted_tap,
         operations: r.operations,
-        raise_button: keys.raise_button,
-        lower_button: keys.lower_button,
+        keys: keys,
         remembered: ways.remembered,
-        remote_raise: keys.remote_raise,
-        remote_lower: keys.remote_lower,
-        remote: keys.remote,
     }
-}
-
-// Whether the keys' numbers are 0 or 1.
-fn are_keys(m: Image) -> bool
-    ensures { λ b. ⌜ b ≡ areKeys m ⌝ }
-{
-    let panel = (m.raise_button <= 1) & (m.lower_button <= 1);
-    let dispatcher = (m.remote_raise <= 1) & (m.remote_lower <= 1);
-    panel & dispatcher & (m.remote <= 1)
 }
 
 // Whether an image is some record's.
@@ -112,28 +74,13 @@ fn is_record(m: Image) -> bool
     let numbers = m.organ_marks;
     let d = m.drive;
     let w = m.wait;
+    let k = m.keys;
     let marks = crate::places::are_marks(numbers);
     let drive = coding::is_drive(d);
     let wait = coding::is_wait(w);
     let ways = (m.repeat <= 2) & (m.last <= 2) & (m.remembered <= 2);
-    let keys = are_keys(m);
+    let keys = coding::are_keys(k);
     marks & drive & (m.fault <= 4) & wait & ways & keys
-}
-
-fn keys_of(m: Image) -> Keys
-    ensures { λ k. ⌜ k ≡ keysOf m ⌝ }
-{
-    Keys {
-        panel: Buttons {
-            raise: m.raise_button == 1,
-            lower: m.lower_button == 1,
-        },
-        dispatcher: Buttons {
-            raise: m.remote_raise == 1,
-            lower: m.remote_lower == 1,
-        },
-        remote: m.remote == 1,
-    }
 }
 
 // The record whose image it is.
@@ -145,6 +92,7 @@ fn state_of(m: Image) -> Regulator
     let counts = m.organ_counts;
     let d = m.drive;
     let w = m.wait;
+    let k = m.keys;
     let organs = crate::places::organs_of(marks, counts);
     let drive = coding::drive_of(d);
     let fault = coding::fault_of(m.fault);
@@ -152,7 +100,7 @@ fn state_of(m: Image) -> Regulator
     let repeat = coding::way_of(m.repeat);
     let last = coding::way_of(m.last);
     let remembered = coding::way_of(m.remembered);
-    let keys = keys_of(m);
+    let keys = coding::keys_of(k);
     Regulator {
         settings: settings,
         organs: organs,

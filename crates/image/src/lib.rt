@@ -5,12 +5,13 @@ pub mod images;
 pub mod places;
 
 use coding::DriveImage;
+use coding::KeyImage;
 use coding::WaitImage;
 use record::Regulator;
 use slots::SLOTS;
 
 // `fault`: 0 none, 1 run-away, 2 not started, 3 long, 4 fast. `repeat`, `last`, `remembered`: 0 none, 1 raise, 2 lower. A mark
-// and a button are 0 or 1, and so is `remote`, the mode of the previous tick; `raise_button` and `lower_button` are the panel's.
+// is 0 or 1.
 #[repr(C)]
 pub struct Image {
     pub settings: [u32; SLOTS],
@@ -24,12 +25,8 @@ pub struct Image {
     pub last: u32,
     pub counted_tap: u32,
     pub operations: u32,
-    pub raise_button: u32,
-    pub lower_button: u32,
+    pub keys: KeyImage,
     pub remembered: u32,
-    pub remote_raise: u32,
-    pub remote_lower: u32,
-    pub remote: u32,
 }
 
 // What an image gives: its record, or, where it is no record's image, nothing and a record of zeros.

@@ -1,6 +1,6 @@
 //! Between the second program's types and the boundary's.
 
-use library::{Brought, DriveImage, Image, Sample, WaitImage, GOOD, HELD, INVALID, ORGANS};
+use library::{Brought, DriveImage, Image, KeyImage, Sample, WaitImage, GOOD, HELD, INVALID, ORGANS};
 use reference::dice::Dice;
 use reference::input::Input;
 use reference::reading::Reading;
@@ -30,9 +30,15 @@ pub fn image_of(record: &Record) -> Image {
         last: way(record.last_direction),
         counted_tap: record.counted_tap,
         operations: record.operations,
+        keys: key_image(record),
+        remembered: way(record.remembered),
+    }
+}
+
+fn key_image(record: &Record) -> KeyImage {
+    KeyImage {
         raise_button: u32::from(record.raise_button),
         lower_button: u32::from(record.lower_button),
-        remembered: way(record.remembered),
         remote_raise: u32::from(record.remote_raise),
         remote_lower: u32::from(record.remote_lower),
         remote: u32::from(record.remote),
@@ -74,12 +80,12 @@ pub fn record_of(image: &Image) -> Option<Record> {
         last_direction: way_of(image.last)?,
         counted_tap: image.counted_tap,
         operations: image.operations,
-        raise_button: flag(image.raise_button)?,
-        lower_button: flag(image.lower_button)?,
+        raise_button: flag(image.keys.raise_button)?,
+        lower_button: flag(image.keys.lower_button)?,
         remembered: way_of(image.remembered)?,
-        remote_raise: flag(image.remote_raise)?,
-        remote_lower: flag(image.remote_lower)?,
-        remote: flag(image.remote)?,
+        remote_raise: flag(image.keys.remote_raise)?,
+        remote_lower: flag(image.keys.remote_lower)?,
+        remote: flag(image.keys.remote)?,
     })
 }
 

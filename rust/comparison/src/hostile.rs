@@ -1,6 +1,6 @@
 //! Images that a careless or hostile host might lend.
 
-use library::{DriveImage, Image, WaitImage, SLOTS, WORDS};
+use library::{DriveImage, Image, KeyImage, WaitImage, SLOTS, WORDS};
 use reference::dice::Dice;
 use reference::record::{LONGEST_WAIT, MOST_OPERATIONS};
 use reference::sheet::{slot, Settings};
@@ -35,7 +35,7 @@ fn number(dice: &mut Dice, image: &Image, old: u32) -> u32 {
     }
 }
 
-/// A drive, a fault, a wait and a remembered press of their own, each about its limit, and keys of the previous tick.
+/// A drive, a fault, a wait and a remembered press of their own, each about its limit, and keys.
 fn drive_and_wait(dice: &mut Dice, settings: &Settings, image: &mut Image) {
     image.drive = drive(dice, settings);
     let rests = image.drive.kind == 0;
@@ -56,11 +56,12 @@ fn drive_and_wait(dice: &mut Dice, settings: &Settings, image: &mut Image) {
     image.repeat = dice.between(0, 2);
     image.last = dice.between(0, 2);
     image.remembered = if fault == 0 || dice.one_in(4) { dice.between(0, 2) } else { 0 };
-    let (panel, dispatcher) =
-        ([&mut image.raise_button, &mut image.lower_button], [&mut image.remote_raise, &mut image.remote_lower]);
-    for key in panel.into_iter().chain(dispatcher).chain([&mut image.remote]) {
-        *key = dice.between(0, 1);
-    }
+    image.keys = keys(dice);
+}
+
+fn keys(dice: &mut Dice) -> KeyImage {
+    let [raise_button, lower_button, remote_raise, remote_lower, remote] = std::array::from_fn(|_| dice.between(0, 1));
+    KeyImage { raise_button, lower_button, remote_raise, remote_lower, remote }
 }
 
 fn drive(dice: &mut Dice, settings: &Settings) -> DriveImage {

@@ -188,9 +188,10 @@ fn named_counts() -> Vec<(String, usize)> {
 }
 
 /// The structs of the boundary: the source, the name there, in C and in Rust.
-const STRUCTS: [(&str, &str, &str, &str); 8] = [
+const STRUCTS: [(&str, &str, &str, &str); 9] = [
     ("coding/src/lib.rt", "DriveImage", "avr_drive", "DriveImage"),
     ("coding/src/lib.rt", "WaitImage", "avr_wait", "WaitImage"),
+    ("coding/src/lib.rt", "KeyImage", "avr_keys", "KeyImage"),
     ("image/src/lib.rt", "Image", "avr_image", "Image"),
     ("image/src/bringing.rt", "Sample", "avr_sample", "Sample"),
     ("image/src/bringing.rt", "Brought", "avr_brought", "Brought"),

@@ -127,7 +127,7 @@ fn remembered_presses() {
 #[test]
 fn two_pairs() {
     let mut unit = Unit::new();
-    let keys = |unit: &Unit| [unit.image.remote_raise, unit.image.remote_lower, unit.image.remote];
+    let keys = |unit: &Unit| [unit.image.keys.remote_raise, unit.image.keys.remote_lower, unit.image.keys.remote];
     assert_eq!(keys(&unit), [1, 1, 0]);
     unit.contacts(&["BREAKER_CLOSED", "REMOTE"]);
     unit.ticks(100.0, 1);

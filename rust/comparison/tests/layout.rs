@@ -4,7 +4,7 @@
 use std::marker::PhantomData;
 use std::mem::size_of;
 
-use library::{start, tick, Brought, Image, Outputs, Sample, Started, Ticked, FIELDS, INVALID, READINGS, WORDS};
+use library::{start, tick, Brought, Image, KeyImage, Outputs, Sample, Started, Ticked, FIELDS, INVALID, READINGS, WORDS};
 use reference::dice::Dice;
 use reference::input::bit;
 use reference::make_sheet;
@@ -75,6 +75,11 @@ fn fresh(changes: &[(usize, u32)]) -> Image {
     started.image
 }
 
+/// The image with remote mode on the previous tick.
+fn remote(image: Image) -> Image {
+    Image { keys: KeyImage { remote: 1, ..image.keys }, ..image }
+}
+
 #[test]
 fn a_started_image_is_written_whole() {
     let sheet = make_sheet::sheet(&mut Dice::new(1));
@@ -86,32 +91,32 @@ fn a_started_image_is_written_whole() {
     let image = started.image;
     assert_eq!(image.settings, sheet);
     let words = image.words();
-    let memory = [sheet[slot::N_POS], sheet[slot::N_START], 1, 1, 0, 1, 1, 0];
+    let memory = [sheet[slot::N_POS], sheet[slot::N_START], 1, 1, 1, 1, 0, 0];
     let (idle, end) = words[sheet.len()..].split_at(WORDS - sheet.len() - memory.len());
     assert!(idle.iter().all(|&n| n == 0));
     assert_eq!(end, memory);
-    let Image { counted_tap, operations, raise_button, lower_button, remembered, remote_raise, remote_lower, remote, .. } =
-        image;
-    assert_eq!([counted_tap, operations, raise_button, lower_button, remembered, remote_raise, remote_lower, remote], memory);
+    let KeyImage { raise_button, lower_button, remote_raise, remote_lower, remote } = image.keys;
+    let keys = [raise_button, lower_button, remote_raise, remote_lower, remote];
+    assert_eq!([&[image.counted_tap, image.operations], &keys[..], &[image.remembered]].concat(), memory);
 }
 
-/// The last numbers of the image are the dispatcher's lower, 1 when fresh and 0 after a tick without it, and the mode, which is
-/// that of the tick.
+/// The last numbers of the image are the dispatcher's lower, 1 when fresh and 0 after a tick without it, the mode, which is that
+/// of the tick, and the remembered press, which a tick in automatic mode drops.
 #[test]
 fn a_lent_image_is_written_to_its_end() {
-    let mut image = Lent::of(Image { remote: 1, ..fresh(&[]) });
+    let mut image = Lent::of(remote(Image { remembered: 2, ..fresh(&[]) }));
     let mut outputs = Lent::<Outputs>::new();
     // SAFETY: three places that do not overlap.
     let answer = unsafe { boundary::avr_tick(image.place(), &idle(), outputs.place()) };
     assert_eq!(answer, 0);
     let words = image.value().words();
-    assert_eq!(words[WORDS - 2..], [0, 0]);
+    assert_eq!(words[WORDS - 3..], [0, 0, 0]);
     assert_eq!(outputs.value().fields[FIELDS - 1], 1, "automatic is the last output");
 }
 
 #[test]
 fn a_refused_tick_writes_each_output_and_no_more() {
-    let refused = Image { remote: 2, ..fresh(&[]) };
+    let refused = Image { remembered: 3, ..fresh(&[]) };
     let mut image = Lent::of(refused);
     let mut outputs = Lent::<Outputs>::new();
     // SAFETY: three places that do not overlap.
@@ -124,9 +129,12 @@ fn a_refused_tick_writes_each_output_and_no_more() {
 fn a_tick_by_value_is_written_whole() {
     let mut ticked = Lent::<Ticked>::new();
     // SAFETY: memory for the answer, and plain values.
-    unsafe { boundary::avr_tick_by_value(ticked.place(), Image { remote: 1, ..fresh(&[]) }, idle()) };
+    unsafe { boundary::avr_tick_by_value(ticked.place(), remote(Image { remembered: 1, ..fresh(&[]) }), idle()) };
     let Ticked { refusal, outputs, next } = ticked.value();
-    assert_eq!((refusal, outputs.fields[FIELDS - 1], next.remote_lower, next.remote), (0, 1, 0, 0));
+    assert_eq!(
+        (refusal, outputs.fields[FIELDS - 1], next.keys.remote_lower, next.keys.remote, next.remembered),
+        (0, 1, 0, 0, 0)
+    );
     assert_eq!(next.settings, BASE);
 }
 
@@ -136,7 +144,7 @@ fn words_are_the_image() {
     let image = Image::from_words(std::array::from_fn(|at| at as u32));
     assert_eq!(image.words(), std::array::from_fn(|at| at as u32));
     assert_eq!(image.settings[0], 0);
-    assert_eq!(image.remote as usize, WORDS - 1);
+    assert_eq!(image.remembered as usize, WORDS - 1);
 }
 
 /// The trips of a tick with this one reading, in V or A, and no delay.

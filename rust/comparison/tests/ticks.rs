@@ -78,11 +78,11 @@ fn pairs(before: &Image, contacts: Contacts, after: &Image) -> [bool; PAIRS.len(
     let dispatcher = [contacts.on(bit::REMOTE_RAISE), contacts.on(bit::REMOTE_LOWER)];
     let (pair, other) = if remote { (dispatcher, panel) } else { (panel, dispatcher) };
     let held = match remote {
-        true => [before.remote_raise, before.remote_lower],
-        false => [before.raise_button, before.lower_button],
+        true => [before.keys.remote_raise, before.keys.remote_lower],
+        false => [before.keys.raise_button, before.keys.lower_button],
     };
     let begins = before.drive.kind == 0 && after.drive.kind == 4;
-    let changed = u32::from(remote) != before.remote && !contacts.on(bit::OUT);
+    let changed = u32::from(remote) != before.keys.remote && !contacts.on(bit::OUT);
     let still = pair.iter().zip(held).all(|(&now, before)| u32::from(now) <= before) && pair.contains(&true);
     [
         begins && !remote,

@@ -40,6 +40,17 @@ pub struct WaitImage {
     pub ticks: u32,
 }
 
+/// The keys of the previous tick.
+#[repr(C)]
+#[derive(Clone, Copy, Debug, PartialEq, Eq)]
+pub struct KeyImage {
+    pub raise_button: u32,
+    pub lower_button: u32,
+    pub remote_raise: u32,
+    pub remote_lower: u32,
+    pub remote: u32,
+}
+
 /// The image of a record.
 #[repr(C)]
 #[derive(Clone, Copy, Debug, PartialEq, Eq)]
@@ -55,12 +66,8 @@ pub struct Image {
     pub last: u32,
     pub counted_tap: u32,
     pub operations: u32,
-    pub raise_button: u32,
-    pub lower_button: u32,
+    pub keys: KeyImage,
     pub remembered: u32,
-    pub remote_raise: u32,
-    pub remote_lower: u32,
-    pub remote: u32,
 }
 
 /// A reading: its quality, and a number in V or A, which counts as the nearest whole mV or mA, a half going up; a part of a pair

@@ -107,12 +107,13 @@ fn length_of(length: &str, counts: &[(String, usize)]) -> usize {
 }
 
 /// The types of C, in Rust's words.
-const KINDS: [(&str, &str); 8] = [
+const KINDS: [(&str, &str); 9] = [
     ("uint32_t", "u32"),
     ("uint8_t", "u8"),
     ("float", "f32"),
     ("avr_drive", "DriveImage"),
     ("avr_wait", "WaitImage"),
+    ("avr_keys", "KeyImage"),
     ("avr_image", "Image"),
     ("avr_sample", "Sample"),
     ("avr_outputs", "Outputs"),

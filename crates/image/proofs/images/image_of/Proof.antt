@@ -20,8 +20,8 @@ wait-image-requires c κs = search needs
 way-numbers-requires : tie.Need-way-numbers-requires
 way-numbers-requires c κs = search needs
 
-key-numbers-requires : tie.Need-key-numbers-requires
-key-numbers-requires c κs = search needs
+key-image-requires : tie.Need-key-image-requires
+key-image-requires c κs = search needs
 
 returns : tie.Need-returns
 returns c = imaged _ (search image-made)
@@ -35,5 +35,5 @@ image-of-spec =
     fault-number-requires
     wait-image-requires
     way-numbers-requires
-    key-numbers-requires
+    key-image-requires
     returns)
