@@ -6,13 +6,15 @@ use mathlib.Core.List.{List, [], _∷_, map}
 use Prim.Native.Nat.{ℕ, _+_, _<_, _≤_}
 use native.Mathlib.Omega.{arith}
 use borrow.Author.Tests.{le-leb, lt-leb}
-use lib.ListN.{length, getD}
+use lib.ListN.{length, getD, set}
+use mir.Val.{boolByte}
 use Rattle.common.specs.Places.{zip, every}
 use Rattle.organ.specs.declared.Organ.{Organ}
+use Rattle.common.proofs.Done.{done, done-on}
 use Rattle.common.proofs.Places.{rest, rest-on, rest-no, rest-none}
 use Rattle.common.proofs.Joined.{and-left, and-right}
 use Rattle.image.specs.declared.places.OrganNumbers.{OrganNumbers}
-use Rattle.coding.specs.Numbers.{isBit}
+use Rattle.coding.specs.Numbers.{bitOf, isBit}
 use Rattle.image.specs.Places.{markOf, countOf, organNumbers, organOf, organsOf, areMarks}
 use Rattle.coding.proofs.Cases.{bit-back, bit-is, bit-same}
 
@@ -78,13 +80,18 @@ unfolding organNumbers
 numbers-made os ms cs p q = rw (p, q, marks-all, counts-all)
 
 -- what a turn writes
-pub mark-made : (o : Organ) (n : ℕ) → n ≡ markOf o → n ≡ markAt o o
-unfolding markAt
-mark-made o n p = p
+flag-made : (b : Bool) → boolByte b ≡ bitOf b
+flag-made true = refl
+flag-made false = refl
 
-pub count-made : (o : Organ) (n : ℕ) → n ≡ countOf o → n ≡ countAt o o
-unfolding countAt
-count-made o n p = p
+module _ (rs : List ℕ) (os : List Organ) (cs : List ℕ) (i : ℕ) (d : Organ) (h : i < length rs) (k : i < length os) where
+  pub mark-made : cs ≡ done markAt i rs os os → set cs i (boolByte (getD os i d .marked)) ≡ done markAt (i + 1) rs os os
+  unfolding markAt markOf
+  mark-made p = done-on markAt rs os os cs _ i d d p (flag-made (getD os i d .marked)) h k k
+
+  pub count-made : cs ≡ done countAt i rs os os → set cs i (getD os i d .count) ≡ done countAt (i + 1) rs os os
+  unfolding countAt countOf
+  count-made p = done-on countAt rs os os cs _ i d d p refl h k k
 
 -- the loop that stops at the first number above 1
 module _ (ms : List ℕ) where

@@ -1,24 +1,12 @@
 // The seven organs in numbers, and back.
 ghost use mathlib.Core.Path.{_≡_};
-ghost use Rattle.image.specs.Places.{markOf, countOf, organNumbers, organOf, organsOf, areMarks};
+ghost use Rattle.image.specs.Places.{organNumbers, organOf, organsOf, areMarks};
 use organ::Organ;
 
 // The marks, 0 or 1, and the counts.
 pub struct OrganNumbers {
     pub marks: [u32; 7],
     pub counts: [u32; 7],
-}
-
-fn mark_of(o: Organ) -> u32
-    ensures { λ n. ⌜ n ≡ markOf o ⌝ }
-{
-    o.marked as u32
-}
-
-fn count_of(o: Organ) -> u32
-    ensures { λ n. ⌜ n ≡ countOf o ⌝ }
-{
-    o.count
 }
 
 pub(crate) fn organ_numbers(organs: [Organ; 7]) -> OrganNumbers
@@ -28,11 +16,8 @@ pub(crate) fn organ_numbers(organs: [Organ; 7]) -> OrganNumbers
     let mut counts = [0u32; 7];
     let mut i: usize = 0;
     while i < 7 {
-        let o = organs[i];
-        let mark = mark_of(o);
-        let count = count_of(o);
-        marks[i] = mark;
-        counts[i] = count;
+        marks[i] = organs[i].marked as u32;
+        counts[i] = organs[i].count;
         i += 1;
     }
     OrganNumbers {

@@ -3,7 +3,7 @@
 use Prim.Native.Nat.{_≤_, _-_}
 use mathlib.Core.Path.{_≡_}
 use lib.ListN.{length}
-use Rattle.common.proofs.Done.{done, done-on, done-all}
+use Rattle.common.proofs.Done.{done, done-all}
 use Rattle.image.proofs.Organs.{markAt, countAt, mark-made, count-made, numbers-made}
 use borrow.Author.Needs.{needs}
 use Rattle.image.proofs.places.organ_numbers.Statement.{statement}
@@ -20,26 +20,29 @@ loop-holds : tie.Need-loop-holds Inv-loop μ-loop
 unfolding done
 loop-holds c = search needs
 
-mul-o : tie.Need-mul-o Inv-loop μ-loop
-mul-o c = search needs
-
-array-copy-out-o : tie.Need-array-copy-out-o Inv-loop μ-loop
-array-copy-out-o c = search needs
-
-mark-of-requires : tie.Need-mark-of-requires Inv-loop μ-loop
-mark-of-requires c κs = search needs
-
-count-of-requires : tie.Need-count-of-requires Inv-loop μ-loop
-count-of-requires c κs = search needs
-
 mul-marks : tie.Need-mul-marks Inv-loop μ-loop
 mul-marks c = search needs
+
+element-copy-out-marks : tie.Need-element-copy-out-marks Inv-loop μ-loop
+element-copy-out-marks c = search needs
+
+cast-marks : tie.Need-cast-marks Inv-loop μ-loop
+cast-marks c = search needs
+
+mul-marks-2 : tie.Need-mul-marks-2 Inv-loop μ-loop
+mul-marks-2 c = search needs
 
 array-write-marks : tie.Need-array-write-marks Inv-loop μ-loop
 array-write-marks c = search needs
 
 mul-counts : tie.Need-mul-counts Inv-loop μ-loop
 mul-counts c = search needs
+
+element-copy-out-counts : tie.Need-element-copy-out-counts Inv-loop μ-loop
+element-copy-out-counts c = search needs
+
+mul-counts-2 : tie.Need-mul-counts-2 Inv-loop μ-loop
+mul-counts-2 c = search needs
 
 array-write-counts : tie.Need-array-write-counts Inv-loop μ-loop
 array-write-counts c = search needs
@@ -51,7 +54,7 @@ loop-less : tie.Need-loop-less Inv-loop μ-loop
 loop-less c = search needs
 
 loop-again : tie.Need-loop-again Inv-loop μ-loop
-loop-again c = search (needs, done-on, mark-made, count-made)
+loop-again c = search (needs, mark-made, count-made)
 
 returns : tie.Need-returns Inv-loop μ-loop
 returns c = search (needs, done-all, numbers-made)
@@ -63,13 +66,14 @@ organ-numbers-spec =
     Inv-loop
     μ-loop
     loop-holds
-    mul-o
-    array-copy-out-o
-    mark-of-requires
-    count-of-requires
     mul-marks
+    element-copy-out-marks
+    cast-marks
+    mul-marks-2
     array-write-marks
     mul-counts
+    element-copy-out-counts
+    mul-counts-2
     array-write-counts
     add-i
     loop-less
