@@ -1,9 +1,8 @@
 -- What 02, ticket 7, says of the two pairs of buttons, of what manual mode goes by.
 -- Assumes nothing.
-use mathlib.Core.Path.{_≡_, refl, sym}
+use mathlib.Core.Path.{_≡_, refl}
 use mathlib.Core.Bool.{Bool, true, false}
 use Rattle.common.specs.Choice.{choose}
-use Rattle.common.proofs.Cases.{yes, no}
 use Rattle.ways.specs.declared.Way.{Way}
 use Rattle.ways.specs.declared.Way.the-variants.{Neither}
 use Rattle.command.specs.declared.Buttons.{Buttons}
