@@ -7,7 +7,8 @@ use Rattle.command.specs.declared.Buttons.{Buttons}
 use Rattle.command.specs.declared.pairs.Keys.{Keys}
 use Rattle.command.specs.declared.pairs.Heard.{Heard}
 
--- "bit 21 chooses remote mode, bits 22 and 23 are the dispatcher's raise and lower. Bits 19 and 20 act only in local mode": the pair of a mode
+-- the pair of a mode: "bit 21 chooses remote mode, bits 22 and 23 are the dispatcher's raise and lower. Bits 19 and 20 act only in local
+-- mode"
 unfoldable pub pairOf : Bool → Keys → Buttons
 pairOf remote k = choose remote (k .dispatcher) (k .panel)
 
