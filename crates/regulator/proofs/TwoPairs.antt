@@ -52,7 +52,7 @@ recalling k press r =
       remembered = press;
     }
 
--- the record but for its keys
+-- the record with these keys, and all else as it is
 abbrev pub rekeyed : Keys → Regulator → Regulator
 rekeyed k r = recalling k (r .remembered) r
 
@@ -204,7 +204,8 @@ module _ (r : Regulator) (i : Input) (w : withinOf r ≡ true) where
   unfolding outOf freshOf
   pressed-when-out o = ap (λ (t : Ticked). t .next .keys) (out-is r i w o)
 
-  -- so a button that is held through a change of mode is no press of its pair: the tick begins no command, and leaves the drive as rule 7 did
+  -- so a button that is held through a change of mode is no press of its pair: the tick begins no command, and leaves the drive as rule 7
+  -- did
   pub held-begins-none : isOut r cᵢ ≡ false → cᵢ .automatic ≡ false → changedOf (keysOf cᵢ) (r .keys) ≡ true
       → (pairOf (cᵢ .remote) (keysOf cᵢ) .raise ≡ true → pairOf (cᵢ .remote) (r .keys) .raise ≡ true)
       → (pairOf (cᵢ .remote) (keysOf cᵢ) .lower ≡ true → pairOf (cᵢ .remote) (r .keys) .lower ≡ true)
