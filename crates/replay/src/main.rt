@@ -1,9 +1,9 @@
 // `replay SHEET RECORDING`: the answer to the sheet, and then a line of outputs for each recorded tick.
 //
 // `data/` was made by the second program, `reference`: the sheet of seed 2517, which compensates along R and X, and the recordings
-// of seeds 2517 and 46, of 1,300 and 500 ticks, one after the other. Ten commands in them are the panel's and eleven the
-// dispatcher's; three of these are presses that were made while the drive ran, and a change of mode drops nine others. `stdout`
-// is what that program prints of them.
+// of seeds 2517 and 46, of 1,300 and 500 ticks, one after the other. Eleven commands in them are the dispatcher's and ten the
+// panel's, three of which are presses that were made while the drive ran; a change of mode drops nine others. `stdout` is what
+// that program prints of them.
 mod failing;
 mod reading;
 mod running;
