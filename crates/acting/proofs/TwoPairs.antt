@@ -48,6 +48,10 @@ contactsWith k c =
       «remote_lower» = k .dispatcher .lower;
     }
 
+-- "each pair remembers its own previous tick in both modes": each button is read as it is, whatever the mode
+pub read-in-both-modes : (k : Keys) (c : Contacts) → keysOf (contactsWith k c) ≡ k
+read-in-both-modes k c = refl
+
 -- what of the record rule 9 goes by, with these keys and this press
 abbrev pub memoryWith : Keys → Way → Memory → Memory
 memoryWith k press m = record { drive = m .drive; wait = m .wait; repeat = m .repeat; keys = k; remembered = press }

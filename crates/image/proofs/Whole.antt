@@ -2,8 +2,8 @@
 -- Assumes nothing.
 use mathlib.Core.Path.{_≡_, refl, sym, ap, _∙_}
 use mathlib.Core.Bool.{Bool, true, false, _&&_}
-use Prim.Native.Nat.{ℕ}
 use mathlib.Core.List.{List}
+use Prim.Native.Nat.{ℕ}
 use lib.ListN.{length}
 use Rattle.common.specs.Choice.{choose}
 use Rattle.common.proofs.Cases.{yes, no}
@@ -20,8 +20,8 @@ use Rattle.image.specs.declared.Image.{Image}
 use Rattle.image.specs.declared.FromImage.{FromImage}
 use Rattle.coding.specs.declared.DriveImage.{DriveImage}
 use Rattle.coding.specs.declared.WaitImage.{WaitImage}
-use Rattle.image.specs.declared.images.WayNumbers.{WayNumbers}
 use Rattle.coding.specs.declared.KeyImage.{KeyImage}
+use Rattle.image.specs.declared.images.WayNumbers.{WayNumbers}
 use Rattle.image.specs.declared.places.OrganNumbers.{OrganNumbers}
 use Rattle.coding.specs.Numbers.{isWay, wayOf, faultNumber, isFault, faultOf, driveImage, driveOf, isDrive, waitImage, waitOf, isWait, keyImage, keysOf, areKeys}
 use Rattle.image.specs.Places.{organNumbers, organsOf, areMarks}

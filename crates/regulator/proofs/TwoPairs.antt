@@ -3,8 +3,8 @@
 -- Assumes nothing.
 use mathlib.Core.Path.{_≡_, refl, sym, ap, subst, _∙_}
 use mathlib.Core.Bool.{Bool, true, false}
-use Prim.Native.Nat.{ℕ}
 use mathlib.Core.Logic.{⊎-elim}
+use Prim.Native.Nat.{ℕ}
 use Rattle.common.specs.Choice.{choose}
 use Rattle.common.proofs.Joined.{split, and-four, and-false}
 use Rattle.fault.specs.declared.Fault.{Fault}
@@ -19,21 +19,21 @@ use Rattle.command.specs.declared.Buttons.{Buttons}
 use Rattle.command.specs.declared.pairs.Keys.{Keys}
 use Rattle.command.specs.Pairs.{pairOf, changedOf, heardOf}
 use Rattle.command.proofs.TwoPairs.{withOther, other-unheard, change-forgets}
-use Rattle.record.specs.declared.Regulator.{Regulator}
 use Rattle.sheet.specs.Sheet.{passesOf}
+use Rattle.record.specs.declared.Regulator.{Regulator}
 use Rattle.record.specs.Limits.{motionWithin, pressWithin, countsWithin, withinOf}
 use Rattle.record.specs.Starting.{localKeys, freshOf}
 use Rattle.sensing.specs.Observing.{observedOf}
 use Rattle.sensing.specs.Assessing.{assessedOf}
+use Rattle.acting.specs.declared.supervising.Supervised.{Supervised}
 use Rattle.acting.specs.Judging.{blockedOf}
 use Rattle.acting.specs.Supervising.{contactOf, clearedOf, holdingOf, followedOf, supervisedOf}
 use Rattle.acting.specs.Commanding.{keysOf, heardIn}
 use Rattle.acting.proofs.TwoPairs.{contactsWith, regulated-by-heard, kept-by-heard, held-begins-nothing}
 use Rattle.regulator.specs.declared.Ticked.{Ticked}
-use Rattle.acting.specs.declared.supervising.Supervised.{Supervised}
-use Rattle.regulator.proofs.Steps.{live-is, out-is}
 use Rattle.regulator.specs.declared.Sensed.{Sensed}
 use Rattle.regulator.specs.Ticks.{observedIn, protectedIn, assessedIn, sensedOf, supervisedIn, blockedIn, memoryOf, regulatedIn, rememberedIn, accountedIn, actedOf, nextOf, endOf, ranOf, isOut, outOf, refusedOf, tickOf}
+use Rattle.regulator.proofs.Steps.{live-is, out-is}
 
 -- the record with these keys of the previous tick, and this press remembered
 abbrev pub recalling : Keys → Way → Regulator → Regulator
