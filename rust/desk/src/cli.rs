@@ -26,25 +26,25 @@ const COMMANDS: [Command; 5] = [
         path: &["sheet", "check"],
         help: help::SHEET_CHECK,
         takes: Takes { plain: 1, options: &["output"], needed: &[] },
-        act: commands::sheet_check,
+        act: commands::sheet::check,
     },
     Command {
         path: &["sheet", "show"],
         help: help::SHEET_SHOW,
         takes: Takes { plain: 1, options: &[], needed: &[] },
-        act: commands::sheet_show,
+        act: commands::sheet::show,
     },
     Command {
         path: &["scenario", "write"],
         help: help::SCENARIO_WRITE,
         takes: Takes { plain: 1, options: &["output", "sheet"], needed: &[&["output"]] },
-        act: commands::scenario_write,
+        act: commands::scenario::write_recording,
     },
     Command {
         path: &["scenario", "show"],
         help: help::SCENARIO_SHOW,
         takes: Takes { plain: 1, options: &[], needed: &[] },
-        act: commands::scenario_show,
+        act: commands::scenario::show_recording,
     },
     Command {
         path: &["run"],
@@ -54,7 +54,7 @@ const COMMANDS: [Command; 5] = [
             options: &["sheet", "scenario", "recording", "table", "svg", "title"],
             needed: &[&["sheet"], &["scenario", "recording"]],
         },
-        act: commands::run,
+        act: commands::run::run,
     },
 ];
 

@@ -32,8 +32,24 @@ struct Picture<'a> {
     y: f64,
 }
 
+/// What a picture shows: its title, and the ticks between which it looks.
+#[derive(Clone, Copy)]
+pub struct View<'a> {
+    pub title: &'a str,
+    pub from: u32,
+    pub to: u32,
+}
+
+impl<'a> View<'a> {
+    /// All of a run of so many ticks.
+    pub fn whole(title: &'a str, ticks: u32) -> View<'a> {
+        View { title, from: 0, to: ticks }
+    }
+}
+
 /// The SVG of a run on the sheet `list`.
-pub fn picture(history: &History, list: &[u32], title: &str) -> String {
+pub fn picture(history: &History, list: &[u32], view: View) -> String {
+    let title = view.title;
     let time = TimeScale { left: LEFT, width: WIDTH - LEFT - RIGHT, ticks: history.ticks };
     let mut picture = Picture { svg: Svg::new(), history, list, time, y: TOP };
     let others = series::others(history);

@@ -4,6 +4,7 @@ use library::{Brought, Sample, FIELDS, READINGS};
 
 use crate::drive::Way;
 use crate::file::Errors;
+use crate::missing;
 use crate::play::Source;
 use crate::progress::Progress;
 use crate::unit::Unit;
@@ -16,6 +17,8 @@ pub type Signal<T> = Vec<(u32, T)>;
 pub struct History {
     pub ticks: u32,
     pub readings: [Signal<Sample>; READINGS],
+    /// The readings that are missing to the unit, a bit each.
+    pub missing: Signal<u32>,
     pub contacts: Signal<u32>,
     pub remembered: Signal<Option<Way>>,
     pub outputs: [Signal<u32>; FIELDS],
@@ -36,6 +39,7 @@ pub fn run(
         each(&brought);
         outputs = unit.tick(&brought).map_err(|number| vec![format!("tick {tick} is refused (refusal {number})")])?;
         history.note(tick, &brought, &outputs);
+        keep(&mut history.missing, tick, missing::mask(&brought.readings, unit.rated));
         keep(&mut history.remembered, tick, unit.remembered());
         progress.tick(tick, ticks);
     }

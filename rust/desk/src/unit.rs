@@ -3,6 +3,7 @@
 use library::{Brought, Image, Outputs, FIELDS};
 
 use crate::drive::Way;
+use crate::names::{rated_amps, MODULE};
 
 /// Why a sheet is refused: the refusal's number and its slot.
 #[derive(Clone, Copy, Debug, PartialEq, Eq)]
@@ -23,13 +24,15 @@ pub const COUNTED: u32 = 5;
 /// A regulator that runs. Of its image the tool looks at the remembered press alone.
 pub struct Unit {
     image: Image,
+    /// The rated amperes of its module.
+    pub rated: u32,
 }
 
 /// Starts a regulator from a sheet of any length.
 pub fn start(list: &[u32]) -> Result<Unit, Refusal> {
     let started = library::start(list);
     match started.number {
-        0 => Ok(Unit { image: started.image }),
+        0 => Ok(Unit { image: started.image, rated: rated_amps(list[MODULE]) }),
         number => Err(Refusal { number, slot: started.slot }),
     }
 }

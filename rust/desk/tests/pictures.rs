@@ -9,7 +9,7 @@ use desk::band::bands;
 use desk::inputs::{with, SWITCHING};
 use desk::names::CONTINUOUS;
 use desk::outputs::{HIGH, LOW};
-use desk::picture::picture;
+use desk::picture::{picture, View};
 use desk::play::{Player, Source};
 use desk::progress::{line, Progress};
 use desk::unit::start;
@@ -54,7 +54,7 @@ fn a_long_noisy_run_gives_a_small_picture() {
     let list = four_voltages();
     let unit = start(&list).expect("taken");
     let history = run::run(unit, Source::Recording(&ticks), &mut Progress::usual(), |_| ()).expect("a run");
-    let text = picture(&history, &list, "<noise & \"quotes\">");
+    let text = picture(&history, &list, View::whole("<noise & \"quotes\">", history.ticks));
     assert!(text.len() < 600_000, "{}", text.len());
     assert!(text.contains("<title>&lt;noise &amp; &quot;quotes&quot;&gt;</title>"));
 }
@@ -68,7 +68,7 @@ fn a_run_of_one_tick_and_readings_of_every_kind_can_be_drawn() {
             brought.readings = [Sample { quality, value }; READINGS];
             let unit = start(&list).expect("taken");
             let history = run::run(unit, Source::Recording(&[brought]), &mut Progress::usual(), |_| ()).expect("a run");
-            let text = picture(&history, &list, "one tick");
+            let text = picture(&history, &list, View::whole("one tick", history.ticks));
             assert!(!text.contains("NaN") && !text.contains("inf\""), "{value} {quality}");
         }
     }
@@ -126,7 +126,7 @@ fn a_crowded_picture_can_be_read() {
     let unit = start(&list).expect("taken");
     let source = Source::Scenario(Player::with_drive(&scenario, &list));
     let history = run::run(unit, source, &mut Progress::usual(), |_| ()).expect("a run");
-    let text = picture(&history, &list, "crowded");
+    let text = picture(&history, &list, View::whole("crowded", history.ticks));
     check_texts("crowded", &text);
     for words in ["U_supp1 100 V", "U_supp2 104 V", "I_set3 0.1 A", "trip: U2 over U_set4", "wrong BCD code", "in: oil_cold"] {
         assert!(text.contains(&format!(">{words}</text>")), "{words}");
@@ -150,7 +150,7 @@ fn drawn(sheet: &str, scenario: &str) -> String {
     let source = Source::Scenario(Player::with_drive(&scenario, &list));
     let unit = start(&list).expect("taken");
     let history = run::run(unit, source, &mut Progress::usual(), |_| ()).expect("a run");
-    picture(&history, &list, "drawn")
+    picture(&history, &list, View::whole("drawn", history.ticks))
 }
 
 #[test]
@@ -201,7 +201,7 @@ fn picture_of(continuous: u32, closed: bool) -> String {
     let ticks = [tick(100.0, 1), tick(100.0, with(1, SWITCHING, closed))];
     let unit = start(&list).expect("taken");
     let history = run::run(unit, Source::Recording(&ticks), &mut Progress::usual(), |_| ()).expect("a run");
-    picture(&history, &list, "contact")
+    picture(&history, &list, View::whole("contact", history.ticks))
 }
 
 #[test]

@@ -1,6 +1,6 @@
 //! Ten seconds of buttons with a drive that answers: what the table and the picture tell of them.
 
-use desk::picture::picture;
+use desk::picture::{picture, View};
 use desk::play::{Player, Source};
 use desk::progress::Progress;
 use desk::run::{self, History};
@@ -42,7 +42,7 @@ impl Run {
     }
 
     pub fn picture(&self) -> String {
-        picture(&self.history, &self.list, "buttons")
+        picture(&self.history, &self.list, View::whole("buttons", self.history.ticks))
     }
 
     /// The labels of the picture from the first contact's on, as many as these.

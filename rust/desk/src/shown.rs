@@ -1,0 +1,30 @@
+//! Text that somebody else wrote, as a message shows it: cut, and without characters that act on a terminal.
+
+/// The most characters that are shown.
+const MOST: usize = 60;
+
+/// The text, its control characters and those that turn the writing around by their numbers; cut where it is long.
+pub fn text(words: &str) -> String {
+    let mut shown: String = words.chars().take(MOST).map(plain).collect();
+    let left = words.chars().skip(MOST).count();
+    if left > 0 {
+        shown.push_str(&format!("… ({left} more)"));
+    }
+    shown
+}
+
+fn plain(letter: char) -> String {
+    let turns = matches!(letter, '\u{200e}' | '\u{200f}' | '\u{2028}'..='\u{202e}' | '\u{2066}'..='\u{2069}' | '\u{feff}');
+    match letter.is_control() || turns {
+        true => letter.escape_unicode().to_string(),
+        false => letter.to_string(),
+    }
+}
+
+/// A count with its noun, `1 setting` and `2 settings`.
+pub fn counted(count: usize, noun: &str) -> String {
+    match count {
+        1 => format!("1 {noun}"),
+        _ => format!("{count} {noun}s"),
+    }
+}
