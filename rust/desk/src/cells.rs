@@ -2,8 +2,9 @@
 
 use library::{Sample, GOOD, HELD, INVALID};
 
-use crate::decimal;
+use crate::decimal::{self, Bad};
 use crate::phasor;
+use crate::shown;
 use crate::value::TICK_MS;
 
 /// `98.2`, `98.2 held`, `invalid`; `bits 0x7fc00000` for a float that has no number.
@@ -12,7 +13,7 @@ pub fn reading(text: &str) -> Result<Sample, String> {
     match float(number) {
         _ if quality == INVALID => Ok(Sample { quality, value: 0.0 }),
         Some(value) => Ok(Sample { quality, value }),
-        None => Err(format!("`{text}` is no reading: 98.2, 98.2 held or invalid")),
+        None => Err(format!("`{}` is no reading: 98.2, 98.2 held or invalid", shown::text(text))),
     }
 }
 
@@ -22,7 +23,10 @@ pub fn phasor(text: &str) -> Result<[Sample; 2], String> {
     match size_and_angle(numbers) {
         _ if quality == INVALID => Ok([Sample { quality, value: 0.0 }; 2]),
         Some((size, degrees)) => Ok(phasor::parts(size, degrees).map(|value| Sample { quality, value })),
-        None => Err(format!("`{text}` is no phasor: a magnitude from 0 on and degrees, 0.8@-30 or 0.8@-30 held, or invalid")),
+        None => Err(format!(
+            "`{}` is no phasor: a magnitude from 0 on and degrees, 0.8@-30 or 0.8@-30 held, or invalid",
+            shown::text(text)
+        )),
     }
 }
 
@@ -71,13 +75,13 @@ pub fn contact(text: &str) -> Result<bool, String> {
     match text {
         "1" | "on" | "closed" => Ok(true),
         "0" | "off" | "open" => Ok(false),
-        _ => Err(format!("`{text}` is no contact: 1 or 0, on or off, closed or open")),
+        _ => Err(format!("`{}` is no contact: 1 or 0, on or off, closed or open", shown::text(text))),
     }
 }
 
 /// `24` is tap 24 on the lines, `0x1a` the lines themselves.
 pub fn bcd(text: &str) -> Result<u8, String> {
-    let wrong = || format!("`{text}` is no BCD code: a tap from 0 to 99, or lines from 0x00 to 0xff");
+    let wrong = || format!("`{}` is no BCD code: a tap from 0 to 99, or lines from 0x00 to 0xff", shown::text(text));
     if let Some(hex) = text.strip_prefix("0x") {
         return u8::from_str_radix(hex, 16).map_err(|_| wrong());
     }
@@ -101,21 +105,43 @@ pub fn bcd_text(lines: u8) -> String {
 }
 
 pub fn sensor(text: &str) -> Result<u8, String> {
-    text.parse().map_err(|_| format!("`{text}` is no sensor number: 0 to 255"))
+    text.parse().map_err(|_| format!("`{}` is no sensor number: 0 to 255", shown::text(text)))
+}
+
+/// The longest run, in ticks: a little more than a day. No time is beyond it.
+pub const LONGEST: u32 = 20_000_000;
+
+/// What is said of all that is longer.
+pub fn beyond_longest() -> String {
+    format!("beyond {} s, {LONGEST} ticks, the longest run", seconds_text(LONGEST))
 }
 
 /// Seconds as ticks.
 pub fn seconds(text: &str) -> Result<u32, String> {
-    let ms = decimal::thousandths(text).map_err(|bad| format!("the time `{text}` {}", bad.words()))?;
+    let ms = match decimal::thousandths(text) {
+        Ok(ms) => ms,
+        Err(Bad::TooLarge) => u64::MAX,
+        Err(bad) => return Err(format!("the time `{}` {}", shown::text(text), bad.words())),
+    };
     match ms % TICK_MS {
-        0 => u32::try_from(ms / TICK_MS).map_err(|_| format!("the time `{text}` is too large")),
-        _ => Err(format!("the time `{text}` s is no whole number of ticks of 0.005 s")),
+        _ if ms > u64::from(LONGEST) * TICK_MS => Err(too_late(text)),
+        0 => Ok((ms / TICK_MS) as u32),
+        _ => Err(format!("the time `{}` s is no whole number of ticks of 0.005 s", shown::text(text))),
     }
 }
 
 /// A time in ticks.
 pub fn ticks(text: &str) -> Result<u32, String> {
-    text.parse().map_err(|_| format!("the time `{text}` is no whole number of ticks"))
+    let digits = !text.is_empty() && text.bytes().all(|b| b.is_ascii_digit());
+    match text.parse() {
+        Ok(ticks) if ticks <= LONGEST => Ok(ticks),
+        _ if digits => Err(too_late(text)),
+        _ => Err(format!("the time `{}` is no whole number of ticks", shown::text(text))),
+    }
+}
+
+fn too_late(text: &str) -> String {
+    format!("the time `{}` is {}", shown::text(text), beyond_longest())
 }
 
 pub fn seconds_text(ticks: u32) -> String {
@@ -126,7 +152,7 @@ pub fn seconds_text(ticks: u32) -> String {
 pub fn volts(text: &str) -> Result<f64, String> {
     match text.parse::<f64>() {
         Ok(volts) if volts.abs() <= 200.0 => Ok(volts),
-        _ => Err(format!("`{text}` is no voltage from -200 to 200 V")),
+        _ => Err(format!("`{}` is no voltage from -200 to 200 V", shown::text(text))),
     }
 }
 
@@ -134,7 +160,7 @@ pub fn volts(text: &str) -> Result<f64, String> {
 pub fn tap(text: &str) -> Result<u8, String> {
     match text.parse::<u8>() {
         Ok(tap) if (1..=79).contains(&tap) => Ok(tap),
-        _ => Err(format!("`{text}` is no tap of a drive: 1 to 79")),
+        _ => Err(format!("`{}` is no tap of a drive: 1 to 79", shown::text(text))),
     }
 }
 

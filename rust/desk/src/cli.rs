@@ -1,12 +1,16 @@
 //! The command line.
 
 use std::ffi::OsString;
+use std::fs;
 use std::io::{self, ErrorKind, Write};
+use std::path::Path;
 use std::process::ExitCode;
 
-use crate::commands::{self, Said};
-use crate::file::Errors;
+use crate::commands::{self, Failure, Said};
+use crate::file::{why, Errors};
 use crate::help;
+use crate::shown;
+use crate::target;
 use crate::words::{self, Takes, Words};
 
 /// Exit statuses.
@@ -18,7 +22,7 @@ struct Command {
     path: &'static [&'static str],
     help: &'static str,
     takes: Takes,
-    act: fn(&Words) -> Result<Said, Errors>,
+    act: fn(&Words) -> Result<Said, Failure>,
 }
 
 const COMMANDS: [Command; 5] = [
@@ -51,7 +55,7 @@ const COMMANDS: [Command; 5] = [
         help: help::RUN,
         takes: Takes {
             plain: 0,
-            options: &["sheet", "scenario", "recording", "table", "svg", "title"],
+            options: &["sheet", "scenario", "recording", "table", "format", "only", "svg", "title", "from", "to"],
             needed: &[&["sheet"], &["scenario", "recording"]],
         },
         act: commands::run::run,
@@ -62,7 +66,7 @@ pub fn main(words: impl Iterator<Item = OsString>) -> ExitCode {
     let words: Result<Vec<String>, OsString> = words.map(OsString::into_string).collect();
     match words {
         Ok(words) => dispatch(&words),
-        Err(word) => misuse(&format!("{} is no text", word.to_string_lossy())),
+        Err(word) => misuse(&format!("`{}` is no text", shown::text(&word.to_string_lossy()))),
     }
 }
 
@@ -82,56 +86,86 @@ fn starts(words: &[String], path: &[&str]) -> bool {
 fn general(words: &[String]) -> ExitCode {
     let words: Vec<&str> = words.iter().map(String::as_str).collect();
     match words[..] {
-        ["--help" | "-h" | "help"] => print(help::ALL),
-        ["--version" | "-V"] => print(concat!("avr ", env!("CARGO_PKG_VERSION"), "\n")),
-        ["sheet", "--help" | "-h"] => print(help::SHEET),
-        ["scenario", "--help" | "-h"] => print(help::SCENARIO),
+        ["--help" | "-h" | "help"] => print(help::ALL.as_bytes()),
+        ["--version" | "-V"] => print(concat!("avr ", env!("CARGO_PKG_VERSION"), "\n").as_bytes()),
+        ["sheet", "--help" | "-h"] => print(help::SHEET.as_bytes()),
+        ["scenario", "--help" | "-h"] => print(help::SCENARIO.as_bytes()),
         [] => misuse("a subcommand is missing"),
         ["sheet"] => misuse("sheet check, or sheet show?"),
         ["scenario"] => misuse("scenario write, or scenario show?"),
-        [group @ ("sheet" | "scenario"), word, ..] => misuse(&format!("no subcommand is called `{group} {word}`")),
-        [word, ..] => misuse(&format!("no subcommand is called `{word}`")),
+        [group @ ("sheet" | "scenario"), word, ..] => {
+            misuse(&format!("no subcommand is called `{group} {}`", shown::text(word)))
+        }
+        [word, ..] => misuse(&format!("no subcommand is called `{}`", shown::text(word))),
     }
 }
 
 fn perform(command: &Command, words: &[String]) -> ExitCode {
     let words = match words::parse(&command.takes, words) {
-        Ok(words) if words.help => return print(command.help),
+        Ok(words) if words.help => return print(command.help.as_bytes()),
         Ok(words) => words,
         Err(wrong) => return misuse_of(command, &wrong),
     };
-    match (command.act)(&words) {
-        Ok(said) => {
-            let status = print(&said.out);
-            said.notes.iter().for_each(|note| eprintln!("{note}"));
-            status
-        }
-        Err(errors) => {
-            errors.iter().for_each(|error| eprintln!("avr: {error}"));
-            ExitCode::from(BAD_FILE)
-        }
+    let said = match stdout_is_closed() {
+        true => Err(Failure::Files(vec!["standard output is closed".to_string()])),
+        false => (command.act)(&words),
+    };
+    match said {
+        Ok(said) => give(said),
+        Err(Failure::Usage(wrong)) => misuse_of(command, &wrong),
+        Err(Failure::Files(errors)) => fail(&errors),
     }
 }
 
+/// Standard output first: what cannot be printed leaves no file behind.
+fn give(said: Said) -> ExitCode {
+    let status = print(&said.out);
+    if status != ExitCode::SUCCESS {
+        return status;
+    }
+    if let Err(errors) = target::write(&said.files) {
+        return fail(&errors);
+    }
+    said.notes.iter().for_each(|note| tell(note));
+    status
+}
+
+fn fail(errors: &Errors) -> ExitCode {
+    errors.iter().for_each(|error| tell(&format!("avr: {error}")));
+    ExitCode::from(BAD_FILE)
+}
+
+/// A line on standard error, if somebody hears it.
+fn tell(line: &str) {
+    drop(writeln!(io::stderr(), "{line}"));
+}
+
 fn misuse(words: &str) -> ExitCode {
-    eprintln!("avr: {words}\ntry `avr --help`");
+    tell(&format!("avr: {words}\ntry `avr --help`"));
     ExitCode::from(BAD_USAGE)
 }
 
 fn misuse_of(command: &Command, words: &str) -> ExitCode {
-    eprintln!("avr: {words}\ntry `avr {} --help`", command.path.join(" "));
+    tell(&format!("avr: {words}\ntry `avr {} --help`", command.path.join(" ")));
     ExitCode::from(BAD_USAGE)
 }
 
 /// Prints on standard output. A reader that has gone away is no error.
-fn print(text: &str) -> ExitCode {
+fn print(bytes: &[u8]) -> ExitCode {
     let mut out = io::stdout().lock();
-    match out.write_all(text.as_bytes()).and_then(|()| out.flush()) {
+    match out.write_all(bytes).and_then(|()| out.flush()) {
+        _ if stdout_is_closed() => fail(&vec!["standard output is closed".to_string()]),
         Ok(()) => ExitCode::SUCCESS,
         Err(error) if error.kind() == ErrorKind::BrokenPipe => ExitCode::SUCCESS,
-        Err(error) => {
-            eprintln!("avr: standard output: {error}");
-            ExitCode::from(BAD_FILE)
-        }
+        Err(error) => fail(&vec![format!("standard output: {}", why(&error))]),
     }
+}
+
+/// Whether there was no standard output as the tool started. Its runtime then puts /dev/null there, open both ways, which no
+/// redirection for writing does.
+fn stdout_is_closed() -> bool {
+    let null = fs::read_link("/proc/self/fd/1").is_ok_and(|path| path == Path::new("/dev/null"));
+    let info = fs::read_to_string("/proc/self/fdinfo/1").unwrap_or_default();
+    let flags = info.lines().find_map(|line| line.strip_prefix("flags:")).map(str::trim);
+    null && flags.and_then(|flags| u32::from_str_radix(flags, 8).ok()).is_some_and(|flags| flags & 3 == 2)
 }

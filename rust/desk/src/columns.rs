@@ -5,6 +5,7 @@ use library::{Brought, Sample};
 use crate::cells;
 use crate::drive::{Nature, TEMPERS};
 use crate::inputs::{with, CONTACTS, PAIRS, READINGS, SWITCHING};
+use crate::shown;
 
 #[derive(Clone, Copy, Debug, PartialEq, Eq)]
 pub enum Column {
@@ -74,7 +75,7 @@ pub fn header(cells: &[&str]) -> Result<Vec<Column>, String> {
     for cell in cells {
         let column = find(cell).ok_or_else(|| unknown(cell))?;
         if columns.contains(&column) {
-            return Err(format!("the column `{cell}` is there twice"));
+            return Err(format!("the column `{}` is there twice", shown::text(cell)));
         }
         columns.push(column);
     }
@@ -88,7 +89,7 @@ fn unknown(name: &str) -> String {
     let known = readings.chain((0..CONTACTS.len() as u32).map(Column::Contact));
     let near = known.map(self::name).find(|known| known.eq_ignore_ascii_case(name)).map(|near| format!("; {near} is one"));
     let hint = near.or_else(|| of_bit(name)).unwrap_or_default();
-    format!("no column is called `{name}`{hint}")
+    format!("no column is called `{}`{hint}", shown::text(name))
 }
 
 /// `bit21` was the column of bit 21 until that had a name.
@@ -163,7 +164,7 @@ fn put_drive(nature: &mut Nature, setting: Setting, text: &str) -> Result<(), St
         Setting::Temper => {
             let known = TEMPERS.iter().find(|(word, _)| *word == text);
             let words: Vec<&str> = TEMPERS.iter().map(|(word, _)| *word).collect();
-            nature.temper = known.ok_or_else(|| format!("`{text}` is no drive: {}", words.join(", ")))?.1;
+            nature.temper = known.ok_or_else(|| format!("`{}` is no drive: {}", shown::text(text), words.join(", ")))?.1;
         }
         Setting::Start => nature.start = cells::seconds(text)?,
         Setting::Run => nature.run = cells::seconds(text)?,

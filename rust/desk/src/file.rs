@@ -1,23 +1,38 @@
-//! Files in and out: what is wrong where, and nothing written on an error.
+//! Files that are read, no further than they may go, and what is wrong where.
 
 use std::fs;
-use std::io::{self, Write};
-use std::path::{Path, PathBuf};
+use std::io::{self, Read};
+
+use crate::shown;
 
 /// What is wrong, a line each.
 pub type Errors = Vec<String>;
 
-/// A file that was read, under the name the user gave.
+/// Standard input or output in place of a file.
+pub const STANDARD: &str = "-";
+
+/// The most MiB of a sheet and of a scenario.
+pub const SHEET_MOST: u64 = 1;
+pub const SCENARIO_MOST: u64 = 256;
+
+/// A file that was read, under the name that a message has for it.
 pub struct File {
     pub name: String,
     pub bytes: Vec<u8>,
 }
 
 impl File {
-    pub fn read(name: &str) -> Result<File, Errors> {
-        match fs::read(name) {
-            Ok(bytes) => Ok(File { name: name.to_string(), bytes }),
-            Err(error) => Err(vec![format!("{name}: {}", why(&error))]),
+    /// Reads a file whole, or standard input, if it has at most so many MiB.
+    pub fn read(path: &str, most: u64) -> Result<File, Errors> {
+        let limit = most << 20;
+        let mut file = File { name: input_name(path), bytes: Vec::new() };
+        let read = open(path).and_then(|input| input.take(limit + 1).read_to_end(&mut file.bytes));
+        match read {
+            Err(error) => Err(vec![file.says(&why(&error))]),
+            Ok(_) if file.bytes.len() as u64 > limit => {
+                Err(vec![file.says(&format!("is longer than {most} MiB, the most that is read of such a file"))])
+            }
+            Ok(_) => Ok(file),
         }
     }
 
@@ -32,9 +47,9 @@ impl File {
     }
 
     /// The lines of a text, numbered from 1.
-    pub fn lines(&self) -> Result<Vec<(usize, String)>, Errors> {
+    pub fn lines(&self) -> Result<impl Iterator<Item = (usize, &str)>, Errors> {
         match std::str::from_utf8(&self.bytes) {
-            Ok(text) => Ok(numbered(text.trim_start_matches('\u{feff}'))),
+            Ok(text) => Ok(text.trim_start_matches('\u{feff}').lines().enumerate().map(|(at, line)| (at + 1, line))),
             Err(error) => {
                 let before = &self.bytes[..error.valid_up_to()];
                 let line = 1 + before.iter().filter(|&&b| b == b'\n').count();
@@ -44,94 +59,24 @@ impl File {
     }
 }
 
-fn numbered(text: &str) -> Vec<(usize, String)> {
-    text.lines().enumerate().map(|(at, line)| (at + 1, line.to_string())).collect()
+/// A file or standard input, to be read from its beginning.
+pub fn open(path: &str) -> io::Result<Box<dyn Read>> {
+    match path {
+        STANDARD => Ok(Box::new(io::stdin().lock())),
+        _ => Ok(Box::new(fs::File::open(path)?)),
+    }
+}
+
+/// What a message calls a file that is read.
+pub fn input_name(path: &str) -> String {
+    match path {
+        STANDARD => "standard input".to_string(),
+        _ => shown::name(path),
+    }
 }
 
 /// The system's words, without its number.
-fn why(error: &io::Error) -> String {
+pub fn why(error: &io::Error) -> String {
     let words = error.to_string();
     words.split(" (os error").next().unwrap_or(&words).to_string()
-}
-
-/// What is to be written, a file each.
-#[derive(Default)]
-pub struct Output {
-    files: Vec<(String, Vec<u8>)>,
-}
-
-impl Output {
-    pub fn new() -> Output {
-        Output::default()
-    }
-
-    pub fn add(&mut self, name: &str, bytes: Vec<u8>) {
-        self.files.push((name.to_string(), bytes));
-    }
-
-    /// Refuses to write over what was read, or one file twice.
-    pub fn keep_apart(&self, inputs: &[&str]) -> Result<(), Errors> {
-        let taken: Vec<PathBuf> = inputs.iter().filter_map(|name| fs::canonicalize(name).ok()).collect();
-        let mut seen: Vec<PathBuf> = Vec::new();
-        for (name, _) in &self.files {
-            let place = place(name);
-            if taken.contains(&place) || seen.contains(&place) {
-                return Err(vec![format!("{name}: would be written over another file of this command")]);
-            }
-            seen.push(place);
-        }
-        Ok(())
-    }
-
-    /// Writes all files beside their places first, and moves them there when all are written.
-    pub fn write(&self) -> Result<(), Errors> {
-        let mut parts: Vec<PathBuf> = Vec::new();
-        let done = self.write_parts(&mut parts);
-        if done.is_err() {
-            parts.iter().for_each(|part| drop(fs::remove_file(part)));
-        }
-        done
-    }
-
-    fn write_parts(&self, parts: &mut Vec<PathBuf>) -> Result<(), Errors> {
-        let mut moves: Vec<(PathBuf, PathBuf, &str)> = Vec::new();
-        for (name, bytes) in &self.files {
-            let place = place(name);
-            if is_special(&place) {
-                open_and_write(&place, bytes).map_err(|error| vec![format!("{name}: {}", why(&error))])?;
-                continue;
-            }
-            if place.is_dir() {
-                return Err(vec![format!("{name}: is a folder")]);
-            }
-            let part = part_of(&place);
-            parts.push(part.clone());
-            fs::write(&part, bytes).map_err(|error| vec![format!("{name}: {}", why(&error))])?;
-            moves.push((part, place, name));
-        }
-        for (part, place, name) in moves {
-            fs::rename(&part, &place).map_err(|error| vec![format!("{name}: {}", why(&error))])?;
-        }
-        Ok(())
-    }
-}
-
-/// The file behind the name, through links.
-fn place(name: &str) -> PathBuf {
-    fs::canonicalize(name).unwrap_or_else(|_| PathBuf::from(name))
-}
-
-/// A pipe, a terminal, /dev/null: written in place.
-fn is_special(place: &Path) -> bool {
-    fs::metadata(place).is_ok_and(|data| !data.is_file() && !data.is_dir())
-}
-
-fn open_and_write(place: &Path, bytes: &[u8]) -> io::Result<()> {
-    fs::OpenOptions::new().write(true).open(place)?.write_all(bytes)
-}
-
-fn part_of(place: &Path) -> PathBuf {
-    let mut name = place.file_name().unwrap_or_default().to_os_string();
-    name.push(format!(".{}.part", std::process::id()));
-    place.with_file_name(name)
 }

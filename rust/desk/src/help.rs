@@ -7,7 +7,7 @@ usage: avr sheet check FILE [-o SHEET]
        avr sheet show SHEET
        avr scenario write FILE -o RECORDING [--sheet FILE]
        avr scenario show RECORDING
-       avr run --sheet FILE --scenario FILE [--table FILE] [--svg FILE]
+       avr run --sheet FILE (--scenario FILE | --recording FILE) [--table FILE] [--svg FILE] [more]
 
   sheet check     say whether a sheet in text is taken, and why not; write the binary SHEET
   sheet show      turn a SHEET back into text
@@ -15,8 +15,12 @@ usage: avr sheet check FILE [-o SHEET]
   scenario show   turn a RECORDING back into CSV
   run             run the unit: a table of what changed, and a picture
 
-`avr SUBCOMMAND --help` says more. Exit status: 0 done, 1 a file is bad or a sheet is refused, 2 the command line is wrong.
-On an error nothing is written.
+`avr SUBCOMMAND --help` says more, and docs/MANUAL.md what the settings do. `-` in place of a file is standard input or output.
+A run has at most 100000 s, 20000000 ticks; of a sheet at most 1 MiB is read, of a scenario 256 MiB.
+
+Exit status: 0 done, 1 a file is bad or a sheet is refused, 2 the command line is wrong. On an error no file is changed: names are
+looked at before a run, and files are written in place when all is made and printed. Only a RECORDING is written as it is made: if
+its disk fills up, one that stood there is lost, which the message says.
 ";
 
 pub const SHEET: &str = "\
@@ -78,9 +82,10 @@ comment line. A column that is not there is 0.
     90,end
 
   readings        U_AB 3U0 U2 (V), I_high I_bus I_coupler (A): `98.2`, `98.2 held`, `invalid`. The unit counts the nearest
-                  mV or mA, a half going up; what is above 200 V or 40 times I_nom is missing to it.
+                  mV or mA, a half going up. Missing to it is what is invalid, no number (nan, inf), below 0, or above 200 V
+                  or 40 times I_nom: 40 A with I_nom = 1 A, 200 A with 5 A. A run tells what was missing.
   pairs           U_AB_re U_AB_im (V), I_bus_re I_bus_im I_coupler_re I_coupler_im (A): real and imaginary part, for XB4 = RX;
-                  as readings, and also below 0: `-0.4`. In place of two parts U_AB_phasor, I_bus_phasor or I_coupler_phasor,
+                  as readings, and also below 0 to the same bounds: `-0.4`. In place of two parts U_AB_phasor, I_bus_phasor or I_coupler_phasor,
                   magnitude and degrees: `0.8@-30`, `0.8@-30 held`, `invalid`. A current at -30 lags a U_AB at 0 by 30.
   contacts        breaker switching supply_off oil_cold oil_low oil_high end_up end_down ext_overcurrent ext_block
                   ext_raise_block ext_lower_block reset out automatic local U_supp2 U_supp3 U_supp4 raise lower remote
@@ -116,24 +121,33 @@ pub const SCENARIO_SHOW: &str = "\
 usage: avr scenario show RECORDING
 
 Prints a binary RECORDING as a CSV scenario, a row where something changes; pairs by their parts, where they are other than 0.
-The number of an Invalid reading is not kept.
+The number of an Invalid reading is not kept. A RECORDING is read twice, so that one on standard input is held in memory.
 ";
 
 pub const RUN: &str = "\
-usage: avr run --sheet FILE (--scenario FILE | --recording FILE) [--table FILE] [--svg FILE] [--title TEXT]
+usage: avr run --sheet FILE (--scenario FILE | --recording FILE) [--table FILE] [--format FORM] [--only SIDE]
+               [--svg FILE] [--title TEXT] [--from SECONDS] [--to SECONDS]
 
 Runs the unit with the sheet (text or SHEET) over a scenario (CSV) or a RECORDING.
 
   --table FILE    write the table of what changed there, and not on standard output
+  --format FORM   the table as text, for people; as csv, a row for each change; or as json, with the summary (text)
+  --only SIDE     tell inputs or outputs alone, or all (all)
   --svg FILE      write the picture there
   --title TEXT    the picture's title; else the name of the scenario's file
+  --from SECONDS  table and picture begin there; the unit is run from the beginning all the same (0)
+  --to SECONDS    and end there (the end)
 
 Tick n is told at n times 0.005 s. What a row brings at 10 s is seen first on the tick after, at 10.005 s; a delay of 20 s that
-begins there ends at 30 s. Readings of a recording are not told in the table.
+begins there ends at 30 s. Readings of a recording are not told in the table, but for those that are missing to the unit.
 
 In the table `in` is what a tick brings, `out` what the unit gives out, and `unit` what it remembers: a press made while the drive
 runs. When that press is gone, its command on the same tick says that it was carried out; without one it was dropped.
 
+The summary is of the whole run: commands, operations, the time out of band, each block, trip and fault with its time, and the
+readings that were missing and why. The text ends with it and the JSON has it; where standard output has neither, it is on standard
+error.
+
 The table tells pairs by their parts, the picture by their magnitudes, |U_AB|, and by the degrees that a current is ahead of U_AB.
-A remark on standard error says where XB4 = RX needs a pair that the scenario does not give.
+A remark on standard error says where no column gives U_AB, or XB4 = RX needs a pair that the scenario does not give.
 ";

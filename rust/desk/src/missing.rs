@@ -2,7 +2,7 @@
 //! is missing, as is Invalid'. A part of a pair may be below 0, and is missing beyond the same bound either way. This only tells
 //! of it; what is missing is the unit's word, and a test holds this to it.
 
-use library::{Sample, INVALID};
+use library::{Sample, INVALID, READINGS as COUNT};
 
 use crate::inputs::{READINGS, SCALARS};
 
@@ -14,6 +14,8 @@ pub enum Why {
     BelowZero,
     Beyond,
 }
+
+const REASONS: [Why; 4] = [Why::Invalid, Why::NoNumber, Why::BelowZero, Why::Beyond];
 
 /// The most volts, and the most amperes for each of the module's rated ones.
 const MOST_VOLTS: u32 = 200;
@@ -49,8 +51,28 @@ pub fn words(why: Why, reading: usize, rated: u32) -> String {
     }
 }
 
-/// The readings that are missing on a tick, a bit each.
-pub fn mask(readings: &[Sample], rated: u32) -> u32 {
-    let missing = readings.iter().enumerate().filter(|(at, sample)| why(*at, **sample, rated).is_some());
-    missing.fold(0, |mask, (at, _)| mask | 1 << at)
+/// On how many ticks each reading was missing, and why.
+#[derive(Default)]
+pub struct Missing {
+    ticks: [[u32; REASONS.len()]; COUNT],
+}
+
+impl Missing {
+    /// Counts a tick: the readings that are missing on it, a bit each.
+    pub fn count(&mut self, readings: &[Sample; COUNT], rated: u32) -> u32 {
+        let mut mask = 0;
+        for (at, sample) in readings.iter().enumerate() {
+            if let Some(why) = why(at, *sample, rated) {
+                mask |= 1 << at;
+                self.ticks[at][why as usize] += 1;
+            }
+        }
+        mask
+    }
+
+    /// The reasons that came, each with its reading and its ticks.
+    pub fn came(&self) -> impl Iterator<Item = (usize, Why, u32)> + '_ {
+        let of = move |at: usize| REASONS.into_iter().map(move |why| (at, why, self.ticks[at][why as usize]));
+        (0..COUNT).flat_map(of).filter(|(.., ticks)| *ticks > 0)
+    }
 }

@@ -9,6 +9,7 @@ pub const MODULE: usize = at("I_nom");
 pub const COMPENSATION: usize = at("XB4");
 pub const COMPENSATION_CURRENT: usize = at("XB5");
 pub const TAP_SOURCE: usize = at("XB6");
+pub const WEAR: usize = at("XB18");
 pub const U_SUPP: usize = at("U_supp1");
 pub const D_U: usize = at("dU_set");
 pub const N_POS: usize = at("N_pos");

@@ -5,6 +5,7 @@ use library::{Brought, Sample, FIELDS, INVALID};
 use crate::cells::lines_of;
 use crate::columns::{self, Column};
 use crate::drive::{Drive, Nature, Seen, Way};
+use crate::file::Errors;
 use crate::inputs::{is_on, with, RESET, SUPPLY_OFF, SWITCHING, U_AB, U_AB_PAIR};
 use crate::motor::Motor;
 use crate::outputs::{LOWER, RAISE, SUPPLY_TRIP};
@@ -15,23 +16,30 @@ use crate::sheet::is_continuous;
 /// Where ticks come from.
 pub enum Source<'a> {
     Scenario(Player<'a>),
-    Recording(&'a [Brought]),
+    /// A recording, or what stands for one.
+    Recording(&'a mut dyn Iterator<Item = Result<Brought, Errors>>),
 }
 
 impl Source<'_> {
-    pub fn ticks(&self) -> u32 {
+    /// How many ticks there are, where that is known.
+    pub fn ticks(&self) -> Option<u32> {
         match self {
-            Source::Scenario(player) => player.scenario.ticks,
-            Source::Recording(ticks) => ticks.len() as u32,
+            Source::Scenario(player) => Some(player.scenario.ticks),
+            Source::Recording(ticks) => ticks.size_hint().1.and_then(|ticks| u32::try_from(ticks).ok()),
         }
     }
 
-    /// What tick `tick`, from 1, brings after the outputs of the tick before.
-    pub fn bring(&mut self, tick: u32, before: &[u32; FIELDS]) -> Brought {
+    /// What tick `tick`, from 1, brings after the outputs of the tick before; none after the last one.
+    pub fn bring(&mut self, tick: u32, before: &[u32; FIELDS]) -> Result<Option<Brought>, Errors> {
         match self {
-            Source::Scenario(player) => player.bring(tick, before),
-            Source::Recording(ticks) => ticks[tick as usize - 1],
+            Source::Scenario(player) => Ok((tick <= player.scenario.ticks).then(|| player.bring(tick, before))),
+            Source::Recording(ticks) => ticks.next().transpose(),
         }
+    }
+
+    /// Whether it tells how its readings go, row by row.
+    pub fn is_scenario(&self) -> bool {
+        matches!(self, Source::Scenario(_))
     }
 }
 

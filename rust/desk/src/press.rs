@@ -11,6 +11,15 @@ pub fn words(now: Option<Way>) -> &'static str {
     }
 }
 
+/// Its value in a table for other programs.
+pub fn value(now: Option<Way>) -> &'static str {
+    match now {
+        Some(Way::Raise) => "raise",
+        Some(Way::Lower) => "lower",
+        None => "none",
+    }
+}
+
 /// Its short name, for the picture.
 pub fn short(way: Way) -> &'static str {
     match way {

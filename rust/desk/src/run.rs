@@ -2,60 +2,102 @@
 
 use library::{Brought, Sample, FIELDS, READINGS};
 
+use crate::cells::LONGEST;
 use crate::drive::Way;
 use crate::file::Errors;
-use crate::missing;
+use crate::missing::Missing;
 use crate::play::Source;
 use crate::progress::Progress;
+use crate::thin::Thin;
 use crate::unit::Unit;
 
 /// A signal: its value from a tick on, at each change. The first entry is tick 1.
 pub type Signal<T> = Vec<(u32, T)>;
 
+/// The ticks that somebody looks at: those after `from`, up to `to`.
+#[derive(Clone, Copy, Debug, PartialEq)]
+pub struct Window {
+    pub from: u32,
+    pub to: u32,
+}
+
+impl Window {
+    pub const WHOLE: Window = Window { from: 0, to: LONGEST };
+
+    pub fn holds(self, tick: u32) -> bool {
+        self.from < tick && tick <= self.to
+    }
+}
+
 /// What happened.
 #[derive(Default)]
 pub struct History {
     pub ticks: u32,
+    /// The readings; of a recording, where they change on every tick, what a picture of the window shows.
     pub readings: [Signal<Sample>; READINGS],
-    /// The readings that are missing to the unit, a bit each.
+    /// The readings that are missing to the unit, a bit each, and why, all ticks counted.
     pub missing: Signal<u32>,
+    pub reasons: Missing,
     pub contacts: Signal<u32>,
     pub remembered: Signal<Option<Way>>,
     pub outputs: [Signal<u32>; FIELDS],
+}
+
+/// Runs all ticks of a source and looks at all of them.
+pub fn history(unit: Unit, source: Source) -> Result<History, Errors> {
+    run(unit, source, Window::WHOLE, &mut Progress::usual(), |_| Ok(()))
 }
 
 /// Runs all ticks of a source; `each` sees what every tick brings.
 pub fn run(
     mut unit: Unit,
     mut source: Source,
+    window: Window,
     progress: &mut Progress,
-    mut each: impl FnMut(&Brought),
+    mut each: impl FnMut(&Brought) -> Result<(), Errors>,
 ) -> Result<History, Errors> {
-    let ticks = source.ticks();
-    let mut history = History { ticks, ..History::default() };
+    let of = source.ticks();
+    let mut thins = (!source.is_scenario()).then(|| [Thin::default(); READINGS]);
+    let mut history = History::default();
     let mut outputs = [0; FIELDS];
-    for tick in 1..=ticks {
-        let brought = source.bring(tick, &outputs);
-        each(&brought);
-        outputs = unit.tick(&brought).map_err(|number| vec![format!("tick {tick} is refused (refusal {number})")])?;
-        history.note(tick, &brought, &outputs);
-        keep(&mut history.missing, tick, missing::mask(&brought.readings, unit.rated));
-        keep(&mut history.remembered, tick, unit.remembered());
-        progress.tick(tick, ticks);
+    while let Some(brought) = source.bring(history.ticks + 1, &outputs)? {
+        history.ticks += 1;
+        each(&brought)?;
+        let refused = |number| vec![format!("tick {} is refused (refusal {number})", history.ticks)];
+        outputs = unit.tick(&brought).map_err(refused)?;
+        history.note(&brought, &unit, &outputs);
+        thins.iter_mut().for_each(|thins| history.thin(thins, unit.rated, window));
+        progress.tick(history.ticks, of);
     }
     progress.end();
     Ok(history)
 }
 
 impl History {
-    fn note(&mut self, tick: u32, brought: &Brought, outputs: &[u32; FIELDS]) {
+    fn note(&mut self, brought: &Brought, unit: &Unit, outputs: &[u32; FIELDS]) {
+        let tick = self.ticks;
         for (signal, sample) in self.readings.iter_mut().zip(brought.readings) {
-            keep(signal, tick, sample);
+            keep_sample(signal, tick, sample);
         }
+        keep(&mut self.missing, tick, self.reasons.count(&brought.readings, unit.rated));
         keep(&mut self.contacts, tick, brought.contacts);
+        keep(&mut self.remembered, tick, unit.remembered());
         for (signal, output) in self.outputs.iter_mut().zip(outputs) {
             keep(signal, tick, *output);
         }
+    }
+
+    fn thin(&mut self, thins: &mut [Thin; READINGS], rated: u32, window: Window) {
+        for (at, (thin, signal)) in thins.iter_mut().zip(&mut self.readings).enumerate() {
+            thin.watch(at, signal, rated, window);
+        }
+    }
+
+    /// What a reading was on a tick.
+    pub fn reading(&self, at: usize, tick: u32) -> Sample {
+        let signal = &self.readings[at];
+        let after = signal.partition_point(|(from, _)| *from <= tick);
+        signal[after.saturating_sub(1)].1
     }
 }
 
@@ -63,5 +105,13 @@ impl History {
 pub fn keep<T: PartialEq>(signal: &mut Signal<T>, tick: u32, value: T) {
     if signal.last().is_none_or(|(_, last)| *last != value) {
         signal.push((tick, value));
+    }
+}
+
+/// Likewise of a reading, by its bits: a float that is no number is the same again.
+fn keep_sample(signal: &mut Signal<Sample>, tick: u32, sample: Sample) {
+    let bits = |sample: &Sample| (sample.quality, sample.value.to_bits());
+    if signal.last().is_none_or(|(_, last)| bits(last) != bits(&sample)) {
+        signal.push((tick, sample));
     }
 }

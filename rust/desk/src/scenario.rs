@@ -3,9 +3,7 @@
 use crate::cells;
 use crate::columns::{self, Column, Setting, Standing};
 use crate::file::{Errors, File};
-
-/// The longest scenario, in ticks: a little more than a day.
-const LONGEST: u32 = 20_000_000;
+use crate::shown;
 
 /// A row: what stands from the tick after `after` on.
 #[derive(Clone, Debug, PartialEq)]
@@ -37,15 +35,22 @@ struct Reader {
     ended: bool,
 }
 
+/// The most bad rows that are told one by one.
+const MOST_TOLD: usize = 20;
+
 pub fn read(file: &File) -> Result<Scenario, Errors> {
-    let mut lines = file.lines()?.into_iter().filter(|(_, text)| !is_idle(text));
-    let (line, text) = lines.next().ok_or_else(|| vec![file.says("no row is in it")])?;
-    let mut reader = Reader::start(&text).map_err(|words| vec![file.says_at(line, &words)])?;
-    let mut errors = Errors::new();
+    let mut lines = file.lines()?.filter(|(_, text)| !is_idle(text));
+    let (line, text) = lines.next().ok_or_else(|| vec![file.says("no row is in it: its first row names the columns")])?;
+    let mut reader = Reader::start(text).map_err(|words| vec![file.says_at(line, &words)])?;
+    let (mut errors, mut bad) = (Errors::new(), 0);
     for (line, text) in lines {
-        if let Err(words) = reader.take(&text) {
-            errors.push(file.says_at(line, &words));
+        if let Err(words) = reader.take(text) {
+            bad += 1;
+            errors.extend((bad <= MOST_TOLD).then(|| file.says_at(line, &words)));
         }
+    }
+    if bad > MOST_TOLD {
+        errors.push(file.says(&format!("{} more", shown::counted(bad - MOST_TOLD, "bad row"))));
     }
     match (errors.is_empty(), reader.ended) {
         (true, true) => Ok(reader.scenario),
@@ -69,7 +74,7 @@ impl Reader {
         let time = match cells[0] {
             "seconds" => Time::Seconds,
             "ticks" => Time::Ticks,
-            other => return Err(format!("the first column must be `seconds` or `ticks`, and not `{other}`")),
+            other => return Err(format!("the first column must be `seconds` or `ticks`, and not `{}`", shown::text(other))),
         };
         let columns = columns::header(&cells[1..])?;
         Ok(Reader { time, scenario: Scenario { columns, rows: Vec::new(), ticks: 0 }, last: None, ended: false })
@@ -106,8 +111,7 @@ impl Reader {
     fn in_order(&self, text: &str, before: Option<u32>, after: u32) -> Result<(), String> {
         match before {
             None if after != 0 => Err("the first row must be at time 0".to_string()),
-            Some(before) if after <= before => Err(format!("the time `{text}` is not after the row before")),
-            _ if after > LONGEST => Err(format!("the time `{text}` is beyond {} s", cells::seconds_text(LONGEST))),
+            Some(before) if after <= before => Err(format!("the time `{}` is not after the row before", shown::text(text))),
             _ => Ok(()),
         }
     }

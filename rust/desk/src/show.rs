@@ -4,41 +4,50 @@ use library::{Brought, Sample};
 
 use crate::cells;
 use crate::columns::{self, Column};
+use crate::file::Errors;
 use crate::inputs::{is_on, CONTACTS, PAIRS, SCALARS};
-
-pub fn to_csv(ticks: &[Brought]) -> String {
-    let columns = used(ticks);
-    let mut text = String::from("seconds");
-    for column in &columns {
-        text.push_str(&format!(",{}", columns::name(*column)));
-    }
-    text.push('\n');
-    let mut before: Option<&Brought> = None;
-    for (at, tick) in ticks.iter().enumerate() {
-        if before != Some(tick) {
-            text.push_str(&row(&columns, at as u32, before, tick));
-        }
-        before = Some(tick);
-    }
-    text.push_str(&format!("{},end\n", cells::seconds_text(ticks.len() as u32)));
-    text
-}
+use crate::recording;
 
 /// The readings, and pairs, contacts and taps where they are ever other than 0.
-fn used(ticks: &[Brought]) -> Vec<Column> {
-    let contacts = ticks.iter().fold(0, |all, tick| all | tick.contacts);
-    let bits = (0..CONTACTS.len() as u32).filter(|bit| is_on(contacts, *bit));
-    let pairs = (0..PAIRS.len()).filter(|at| ticks.iter().any(|tick| columns::pair(tick, *at) != [Sample::default(); 2]));
-    let parts = pairs.flat_map(|at| PAIRS[at].parts);
+pub fn used(ticks: impl Iterator<Item = Result<Brought, Errors>>) -> Result<Vec<Column>, Errors> {
+    let (mut contacts, mut bcd, mut sensor, mut pairs) = (0, 0, 0, [false; PAIRS.len()]);
+    for tick in ticks {
+        let tick = tick?;
+        contacts |= tick.contacts;
+        bcd |= tick.bcd;
+        sensor |= tick.sensor;
+        pairs.iter_mut().enumerate().for_each(|(at, used)| *used |= columns::pair(&tick, at) != [Sample::default(); 2]);
+    }
+    let parts = (0..PAIRS.len()).filter(|at| pairs[*at]).flat_map(|at| PAIRS[at].parts);
     let mut columns: Vec<Column> = (0..SCALARS).chain(parts).map(Column::Reading).collect();
-    columns.extend(bits.map(Column::Contact));
-    if ticks.iter().any(|tick| tick.bcd != 0) {
-        columns.push(Column::Bcd);
+    columns.extend((0..CONTACTS.len() as u32).filter(|bit| is_on(contacts, *bit)).map(Column::Contact));
+    columns.extend((bcd != 0).then_some(Column::Bcd));
+    columns.extend((sensor != 0).then_some(Column::Sensor));
+    Ok(columns)
+}
+
+/// The whole scenario, line by line, until `put` says that nobody reads it any more.
+pub fn rows(
+    columns: &[Column],
+    ticks: impl Iterator<Item = Result<Brought, Errors>>,
+    mut put: impl FnMut(&str) -> Result<bool, Errors>,
+) -> Result<(), Errors> {
+    let names = columns.iter().map(|column| format!(",{}", columns::name(*column)));
+    let mut read = put(&format!("seconds{}\n", names.collect::<String>()))?;
+    let mut before: Option<Brought> = None;
+    let mut count = 0;
+    for tick in ticks {
+        let tick = tick?;
+        if before.is_none_or(|before| recording::bytes(&before) != recording::bytes(&tick)) {
+            read = put(&row(columns, count, before.as_ref(), &tick))?;
+        }
+        if !read {
+            return Ok(());
+        }
+        before = Some(tick);
+        count += 1;
     }
-    if ticks.iter().any(|tick| tick.sensor != 0) {
-        columns.push(Column::Sensor);
-    }
-    columns
+    put(&format!("{},end\n", cells::seconds_text(count))).map(drop)
 }
 
 /// A row with the cells that changed.

@@ -1,12 +1,22 @@
 //! Text that somebody else wrote, as a message shows it: cut, and without characters that act on a terminal.
 
-/// The most characters that are shown.
+/// The most characters that are shown of a text, and of a file's name.
 const MOST: usize = 60;
+const MOST_OF_NAME: usize = 400;
 
 /// The text, its control characters and those that turn the writing around by their numbers; cut where it is long.
 pub fn text(words: &str) -> String {
-    let mut shown: String = words.chars().take(MOST).map(plain).collect();
-    let left = words.chars().skip(MOST).count();
+    cut(words, MOST)
+}
+
+/// The name of a file, likewise.
+pub fn name(path: &str) -> String {
+    cut(path, MOST_OF_NAME)
+}
+
+fn cut(words: &str, most: usize) -> String {
+    let mut shown: String = words.chars().take(most).map(plain).collect();
+    let left = words.chars().skip(most).count();
     if left > 0 {
         shown.push_str(&format!("… ({left} more)"));
     }

@@ -1,61 +1,126 @@
-//! The table: what changed on which tick, in words.
+//! The table: what changed on which tick, for people, as CSV or as JSON.
 
 use crate::cells;
 use crate::inputs::{is_on, CONTACTS, READINGS};
+use crate::json;
+use crate::missing;
+use crate::names::{rated_amps, MODULE};
 use crate::outputs;
 use crate::press;
-use crate::run::{History, Signal};
+use crate::run::{History, Signal, Window};
 use crate::sheet::is_continuous;
+use crate::summary::summary;
+use crate::value::TICK_MS;
 
-/// A change: its tick, whether it comes in, goes out or stays in the unit, and its words.
-struct Change {
-    tick: u32,
-    side: &'static str,
-    words: String,
+/// What a table holds.
+#[derive(Clone, Copy, Debug, PartialEq)]
+pub struct Wanted {
+    pub form: Form,
+    pub only: Only,
+    /// Whether readings are told on each change; of a recording only those that are missing.
+    pub readings: bool,
+    pub window: Window,
 }
 
-/// The table of a run on the sheet `list`. A recording's readings change on every tick, and are left out by `readings` false.
-pub fn table(history: &History, list: &[u32], readings: bool) -> String {
+#[derive(Clone, Copy, Debug, PartialEq)]
+pub enum Form {
+    Text,
+    Csv,
+    Json,
+}
+
+/// What is told: what ticks bring, what the unit gives out and remembers, or both.
+#[derive(Clone, Copy, Debug, PartialEq)]
+pub enum Only {
+    All,
+    Inputs,
+    Outputs,
+}
+
+/// The words for them on a command line.
+pub const FORMS: [(&str, Form); 3] = [("text", Form::Text), ("csv", Form::Csv), ("json", Form::Json)];
+pub const SIDES: [(&str, Only); 3] = [("all", Only::All), ("inputs", Only::Inputs), ("outputs", Only::Outputs)];
+
+/// A change: its tick, whether it comes in, goes out or stays in the unit, what it is a change of, to which value, and its words.
+pub struct Change {
+    pub tick: u32,
+    pub side: &'static str,
+    pub name: &'static str,
+    pub value: String,
+    pub words: String,
+}
+
+/// The table of a run on the sheet `list`.
+pub fn table(history: &History, list: &[u32], wanted: Wanted) -> String {
     let mut changes: Vec<Change> = Vec::new();
-    if readings {
-        reading_changes(history, &mut changes);
+    if wanted.only != Only::Outputs {
+        changes.extend(input_changes(history, list, wanted.readings));
     }
-    contact_changes(&history.contacts, &mut changes);
-    press_changes(history, &mut changes);
-    output_changes(history, is_continuous(list), &mut changes);
+    if wanted.only != Only::Inputs {
+        press_changes(history, &mut changes);
+        output_changes(history, is_continuous(list), &mut changes);
+    }
+    changes.retain(|change| wanted.window.holds(change.tick));
     changes.sort_by_key(|change| change.tick);
+    match wanted.form {
+        Form::Text => text(history, &changes) + "\n" + &summary(history, list).text(),
+        Form::Csv => csv(&changes),
+        Form::Json => json::document(&changes, &summary(history, list)),
+    }
+}
+
+/// For people: time and tick stand at the first change of a tick.
+fn text(history: &History, changes: &[Change]) -> String {
     let mut text = format!("{:>11}  {:>9}  {:<4} change\n", "seconds", "tick", "");
     let mut before = 0;
-    for change in &changes {
-        text.push_str(&line(change, before));
-        before = change.tick;
+    for Change { tick, side, words, .. } in changes {
+        let (time, number) = match *tick == before {
+            true => (String::new(), String::new()),
+            false => (seconds(*tick), tick.to_string()),
+        };
+        text.push_str(&format!("{time:>11}  {number:>9}  {side:<4} {words}\n"));
+        before = *tick;
     }
-    text.push_str(&format!("{:>11}  {:>9}  end\n", seconds(history.ticks), history.ticks));
-    text
+    text + &format!("{:>11}  {:>9}  end\n", seconds(history.ticks), history.ticks)
 }
 
-/// A change; time and tick stand at the first of a tick.
-fn line(change: &Change, before: u32) -> String {
-    let (time, tick) = match change.tick == before {
-        true => (String::new(), String::new()),
-        false => (seconds(change.tick), change.tick.to_string()),
-    };
-    format!("{time:>11}  {tick:>9}  {:<4} {}\n", change.side, change.words)
+/// For other programs: a row for each change.
+fn csv(changes: &[Change]) -> String {
+    let mut text = String::from("seconds,tick,side,name,value,change\n");
+    for Change { tick, side, name, value, words } in changes {
+        text.push_str(&format!("{},{tick},{side},{name},{value},\"{words}\"\n", seconds(*tick)));
+    }
+    text
 }
 
 /// Seconds with three decimals.
 pub fn seconds(tick: u32) -> String {
-    let ms = u64::from(tick) * crate::value::TICK_MS;
+    let ms = u64::from(tick) * TICK_MS;
     format!("{}.{:03}", ms / 1000, ms % 1000)
 }
 
-fn reading_changes(history: &History, changes: &mut Vec<Change>) {
-    for (signal, reading) in history.readings.iter().zip(&READINGS) {
+/// Readings, each change or only where they are missing, and contacts.
+fn input_changes(history: &History, list: &[u32], readings: bool) -> Vec<Change> {
+    let mut changes = Vec::new();
+    let rated = rated_amps(list[MODULE]);
+    match readings {
+        true => reading_changes(history, rated, &mut changes),
+        false => missing_changes(history, rated, &mut changes),
+    }
+    contact_changes(&history.contacts, &mut changes);
+    changes
+}
+
+fn reading_changes(history: &History, rated: u32, changes: &mut Vec<Change>) {
+    for (at, (signal, reading)) in history.readings.iter().zip(&READINGS).enumerate() {
         for (tick, sample) in signal {
             let idle = *tick == 1 && sample.quality == 0 && sample.value == 0.0;
             if !idle {
-                let words = format!("{} {}", reading.name, with_unit(&cells::reading_text(*sample), reading.unit));
-                changes.push(Change { tick: *tick, side: "in", words });
+                let value = cells::reading_text(*sample);
+                let why = missing::why(at, *sample, rated).filter(|why| *why != missing::Why::Invalid);
+                let note = why.map_or(String::new(), |why| format!(", missing: {}", missing::words(why, at, rated)));
+                let words = format!("{} {}{note}", reading.name, with_unit(&value, reading.unit));
+                changes.push(Change { tick: *tick, side: "in", name: reading.name, value, words });
             }
         }
     }
@@ -70,25 +135,44 @@ fn with_unit(text: &str, unit: &str) -> String {
     }
 }
 
-fn contact_changes(signal: &Signal<u32>, changes: &mut Vec<Change>) {
-    let mut before = 0;
-    for (tick, contacts) in signal {
-        for (bit, contact) in CONTACTS.iter().enumerate() {
-            let bit = bit as u32;
-            if is_on(before ^ contacts, bit) {
-                let words = if is_on(*contacts, bit) { contact.on } else { contact.off };
-                changes.push(Change { tick: *tick, side: "in", words: words.to_string() });
-            }
-        }
-        before = *contacts;
+/// Where a reading begins to be missing, with the reason, and where it counts again.
+fn missing_changes(history: &History, rated: u32, changes: &mut Vec<Change>) {
+    for (tick, at, is_missing) in flips(&history.missing, READINGS.len()) {
+        let (sample, name) = (history.reading(at, tick), READINGS[at].name);
+        let words = match missing::why(at, sample, rated).filter(|_| is_missing) {
+            Some(why) => format!("{name} missing: {}", missing::words(why, at, rated)),
+            None => format!("{name} counts again"),
+        };
+        changes.push(Change { tick, side: "in", name, value: cells::reading_text(sample), words });
     }
+}
+
+fn contact_changes(signal: &Signal<u32>, changes: &mut Vec<Change>) {
+    for (tick, bit, on) in flips(signal, CONTACTS.len()) {
+        let contact = &CONTACTS[bit];
+        let words = if on { contact.on } else { contact.off }.to_string();
+        changes.push(Change { tick, side: "in", name: contact.name, value: u32::from(on).to_string(), words });
+    }
+}
+
+/// The bits that change, each with its tick and whether it is on then; none is on before the first tick.
+fn flips(signal: &Signal<u32>, bits: usize) -> Vec<(u32, usize, bool)> {
+    let mut flips = Vec::new();
+    let mut before = 0;
+    for (tick, now) in signal {
+        let changed = (0..bits).filter(|bit| is_on(before ^ now, *bit as u32));
+        flips.extend(changed.map(|bit| (*tick, bit, is_on(*now, bit as u32))));
+        before = *now;
+    }
+    flips
 }
 
 /// No press is remembered before the first tick, so that none on it is no change.
 fn press_changes(history: &History, changes: &mut Vec<Change>) {
     for (tick, now) in &history.remembered {
         if *tick > 1 || now.is_some() {
-            changes.push(Change { tick: *tick, side: "unit", words: press::words(*now).to_string() });
+            let (value, words) = (press::value(*now).to_string(), press::words(*now).to_string());
+            changes.push(Change { tick: *tick, side: "unit", name: "remembered press", value, words });
         }
     }
 }
@@ -97,7 +181,8 @@ fn output_changes(history: &History, continuous: bool, changes: &mut Vec<Change>
     for (field, signal) in history.outputs.iter().enumerate() {
         for (tick, now) in signal {
             if *tick > 1 || *now != 0 {
-                changes.push(Change { tick: *tick, side: "out", words: outputs::words(field, *now, continuous) });
+                let (name, words) = (outputs::short(field, continuous), outputs::words(field, *now, continuous));
+                changes.push(Change { tick: *tick, side: "out", name, value: now.to_string(), words });
             }
         }
     }

@@ -1,5 +1,7 @@
 //! The words of a command line after its subcommand.
 
+use crate::shown;
+
 /// What a subcommand takes: how many plain words, which options, and those of which one must be given.
 pub struct Takes {
     pub plain: usize,
@@ -27,7 +29,7 @@ impl Words {
 
     fn take_option(&mut self, takes: &Takes, name: &str, value: Option<String>) -> Result<(), String> {
         if !takes.options.contains(&name) {
-            return Err(format!("no option is called --{name}"));
+            return Err(format!("no option is called --{}", shown::text(name)));
         }
         if self.option(name).is_some() {
             return Err(format!("--{name} is given twice"));
@@ -40,7 +42,7 @@ impl Words {
     /// Whether all is there that the subcommand needs.
     fn complete(&self, takes: &Takes) -> Result<(), String> {
         if self.plain.len() != takes.plain {
-            return Err(format!("{} file names given, {} wanted", self.plain.len(), takes.plain));
+            return Err(format!("{} given, {} wanted", shown::counted(self.plain.len(), "file name"), takes.plain));
         }
         for names in takes.needed {
             if names.iter().filter(|name| self.option(name).is_some()).count() != 1 {
@@ -63,7 +65,9 @@ pub fn parse(takes: &Takes, words: &[String]) -> Result<Words, String> {
                 Some((name, value)) => parsed.take_option(takes, name, Some(value.to_string()))?,
                 None => parsed.take_option(takes, &long[2..], rest.next().cloned())?,
             },
-            short if short.len() > 1 && short.starts_with('-') => return Err(format!("no option is called {short}")),
+            short if short.len() > 1 && short.starts_with('-') => {
+                return Err(format!("no option is called {}", shown::text(short)))
+            }
             _ => parsed.plain.push(word.clone()),
         }
     }

@@ -5,7 +5,10 @@ mod common;
 use std::fs;
 
 use common::{avr, between, err, examples, out, Folder};
+use desk::cells::{self, LONGEST};
+use desk::file::{SCENARIO_MOST, SHEET_MOST};
 use desk::inputs::{CONTACTS, PAIRS, READINGS};
+use desk::missing::most;
 use desk::{recording, sheet};
 use library::SLOTS;
 
@@ -68,6 +71,24 @@ fn help_tells_of_a_press_while_the_drive_runs() {
     assert!(run.contains("and `unit` what it remembers: a press made while the drive\nruns."));
 }
 
+/// The numbers that documents give are the tool's own.
+#[test]
+fn help_and_readme_name_the_limits_and_ranges() {
+    let (all, write) = (out(&avr(&["--help"])), out(&avr(&["scenario", "write", "--help"])));
+    let readme = fs::read_to_string(concat!(env!("CARGO_MANIFEST_DIR"), "/README.md")).expect("its manual page");
+    let longest = format!("{} s, {LONGEST} ticks", cells::seconds_text(LONGEST));
+    let sizes = format!("of a sheet at most {SHEET_MOST} MiB is read, of a scenario {SCENARIO_MOST} MiB");
+    assert!(all.contains(&longest) && all.contains(&sizes), "{all}");
+    assert!(readme.replace(',', "").contains(&longest.replace(',', "")));
+    assert!(readme.contains(&format!("A sheet has at most {SHEET_MOST} MiB and a scenario {SCENARIO_MOST} MiB.")));
+    let (volts, amps) = (most(0, 1), [1, 5].map(|rated| most(3, rated)));
+    let ranges = format!(
+        "above {volts} V\n                  or 40 times I_nom: {} A with I_nom = 1 A, {} A with 5 A.",
+        amps[0], amps[1]
+    );
+    assert!(write.contains(&ranges), "{write}");
+}
+
 #[test]
 fn help_names_every_contact_and_tells_which_buttons_act() {
     let write = out(&avr(&["scenario", "write", "--help"]));
@@ -115,7 +136,8 @@ fn a_sheet_is_checked_written_and_shown() {
     let (text, binary) = (folder.write("a.txt", SHEET), folder.path("a.sheet"));
     let output = avr(&["sheet", "check", &text, "-o", &binary]);
     assert_eq!(output.status.code(), Some(0), "{}", err(&output));
-    assert_eq!(out(&output), format!("{text}: taken; 3 settings named, {} by default\n{binary}: written\n", SLOTS - 3));
+    assert_eq!(out(&output), format!("{text}: taken; 3 settings named, {} by default\n", SLOTS - 3));
+    assert_eq!(err(&output), format!("avr: the SHEET is in {binary}\n"));
     assert_eq!(fs::read(&binary).expect("a SHEET").len(), sheet::BYTES);
     let shown = avr(&["sheet", "show", &binary]);
     assert!(out(&shown).contains("\nT1 = 0.5 s "));
@@ -192,8 +214,9 @@ fn a_scenario_without_a_needed_pair_is_remarked_on() {
             vec!["scenario", "write", &csv, "--sheet", &sheet, "-o", &folder.path("a.rec")],
         ] {
             let output = avr(&words);
-            assert!(output.status.success() && !out(&output).is_empty());
-            let said = err(&output);
+            assert!(output.status.success());
+            let said: String =
+                err(&output).lines().filter(|line| !line.contains(" is in ")).map(|line| format!("{line}\n")).collect();
             let head = format!("avr: {csv}: XB4 = RX with XB5 = {current} goes by ");
             let names: Vec<&str> = said.lines().map(|line| line.strip_prefix(&head).expect("a remark")).collect();
             let names: Vec<&str> = names.iter().filter_map(|line| line.split(' ').next()).collect();
@@ -221,7 +244,7 @@ fn a_scenario_is_written_and_shown() {
     let folder = Folder::new("scenario");
     let (csv, recording) = (folder.write("a.csv", SCENARIO), folder.path("a.rec"));
     let output = avr(&["scenario", "write", &csv, "-o", &recording]);
-    assert_eq!(out(&output), format!("{recording}: written, 400 ticks\n"), "{}", err(&output));
+    assert_eq!((out(&output).as_str(), err(&output)), ("", format!("avr: the RECORDING of 400 ticks is in {recording}\n")));
     assert_eq!(fs::read(&recording).expect("a RECORDING").len(), 400 * recording::BYTES);
     let shown = avr(&["scenario", "show", &recording]);
     let wanted = "seconds,U_AB,3U0,U2,I_high,I_bus,I_coupler,breaker,automatic\n0,98,0,0,0,0,0,1,1\n1,100,,,,,,,\n2,end\n";

@@ -7,7 +7,6 @@ use desk::drive::{Drive, Nature, Seen, Temper, Way};
 use desk::motor::Motor;
 use desk::outputs::{LONG, LOWER as LOWER_COMMAND, OPERATIONS, RAISE as RAISE_COMMAND, SUPPLY_TRIP, TAP};
 use desk::play::{Player, Source};
-use desk::progress::Progress;
 use desk::run::{self, History};
 use desk::unit::start;
 use desk::{scenario, sheet};
@@ -205,7 +204,7 @@ fn continuous(rows: &str) -> History {
     let head = "seconds,U_AB,breaker,automatic,raise,local,drive,drive_start,drive_run,drive_tap,drive_step\n";
     let scenario = scenario::read(&file(&format!("{head}{rows}"))).expect("a scenario");
     let source = Source::Scenario(Player::with_drive(&scenario, &list));
-    run::run(start(&list).expect("taken"), source, &mut Progress::usual(), |_| ()).expect("a run")
+    run::history(start(&list).expect("taken"), source).expect("a run")
 }
 
 #[test]

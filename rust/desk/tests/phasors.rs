@@ -2,18 +2,17 @@
 
 mod common;
 
-use common::{bytes, defaults, file};
+use common::{defaults, file, recorded, to_csv};
 use desk::columns;
 use desk::inputs::{I_BUS_PAIR, I_COUPLER_PAIR, PAIRS, READINGS, SCALARS, U_AB, U_AB_PAIR};
 use desk::names::{COMPENSATION, COMPENSATION_CURRENT};
 use desk::outputs::{HIGH, LOW, LOWER, RAISE};
 use desk::phasor::{ahead, lengthened, magnitude};
 use desk::play::{Player, Source};
-use desk::progress::Progress;
 use desk::run::{self, History};
 use desk::sheet::{self, needed_pairs};
 use desk::unit::start;
-use desk::{cells, recording, scenario, show};
+use desk::{cells, recording, scenario};
 use library::{Brought, Sample, FIELDS, GOOD, HELD, INVALID};
 
 fn good(value: f32) -> Sample {
@@ -27,7 +26,7 @@ fn pair(text: &str) -> [Sample; 2] {
 fn ticks(text: &str) -> Vec<Brought> {
     let scenario = scenario::read(&file(text)).expect("a good scenario");
     let mut source = Source::Scenario(Player::new(&scenario));
-    (1..=scenario.ticks).map(|tick| source.bring(tick, &[0; FIELDS])).collect()
+    (1..=scenario.ticks).map(|tick| source.bring(tick, &[0; FIELDS]).expect("a scenario").expect("a tick")).collect()
 }
 
 /// The same but for the last bits of the floats, far below a mV.
@@ -113,7 +112,7 @@ fn a_recorded_tick_has_66_bytes_with_twelve_readings_in_their_order() {
     let head = READINGS.iter().fold("ticks".to_string(), |head, reading| format!("{head},{}", reading.name));
     let tick = ticks(&format!("{head},BCD,sensor\n0,1,2,3,4,5,6,-7,8 held,-9,10,invalid,-12,24,13\n1,end"))[0];
     let mut bytes_ = Vec::new();
-    recording::push(&mut bytes_, &tick);
+    bytes_.extend(recording::bytes(&tick));
     assert_eq!((bytes_.len(), recording::BYTES), (66, 66));
     let reading = |at: usize| (bytes_[5 * at], f32::from_le_bytes(bytes_[5 * at + 1..][..4].try_into().expect("4 bytes")));
     let wanted = [1.0, 2.0, 3.0, 4.0, 5.0, 6.0, -7.0, 8.0, -9.0, 10.0, 0.0, -12.0];
@@ -126,21 +125,21 @@ fn a_recorded_tick_has_66_bytes_with_twelve_readings_in_their_order() {
         assert_eq!(reading(at), (quality, value), "{}", READINGS[at].name);
     }
     assert_eq!(bytes_[60..], [0, 0, 0, 0, 0x24, 13]);
-    assert_eq!(recording::read(&bytes(bytes_.clone())).expect("its own bytes"), [tick]);
+    assert_eq!(recorded(bytes_.clone()).expect("its own bytes"), [tick]);
     let bad = [&bytes_[..55], &[3][..], &bytes_[56..]].concat();
-    let told = recording::read(&bytes(bad)).expect_err("a bad quality byte");
+    let told = recorded(bad).expect_err("a bad quality byte");
     assert_eq!(told, ["file: tick 1: I_coupler_im has the quality byte 3: 0 Good, 1 Held, 2 Invalid"]);
 }
 
 #[test]
 fn a_recording_shows_the_pairs_that_it_has() {
     let plain = "seconds,U_AB,3U0,U2,I_high,I_bus,I_coupler";
-    let shown = |text: &str| show::to_csv(&ticks(text)).lines().next().expect("a head").to_string();
+    let shown = |text: &str| to_csv(&ticks(text)).lines().next().expect("a head").to_string();
     assert_eq!(shown("ticks,U_AB,I_bus_phasor\n0,100,0@30\n1,end"), plain);
     assert_eq!(shown("ticks,I_bus_phasor\n0,0.8@90\n1,end"), format!("{plain},I_bus_re,I_bus_im"));
     assert_eq!(shown("ticks,U_AB_im\n0,-0\n1,end"), format!("{plain},U_AB_re,U_AB_im"));
     assert_eq!(shown("ticks,I_coupler_phasor\n0,0@0\n1,0@0 held\n2,end"), format!("{plain},I_coupler_re,I_coupler_im"));
-    let csv = show::to_csv(&ticks("ticks,U_AB_phasor\n0,100@-90\n1,invalid\n2,end"));
+    let csv = to_csv(&ticks("ticks,U_AB_phasor\n0,100@-90\n1,invalid\n2,end"));
     assert_eq!(csv, format!("{plain},U_AB_re,U_AB_im\n0,0,0,0,0,0,0,0,-100\n0.005,,,,,,,invalid,invalid\n0.01,end\n"));
 }
 
@@ -184,7 +183,7 @@ fn after_a_tap(command: usize, columns: &str, cells: &str) -> Brought {
     let mut source = Source::Scenario(Player::with_drive(&scenario, &defaults(0)));
     let mut outputs = [0; FIELDS];
     outputs[command] = 1;
-    (1..=scenario.ticks).map(|tick| source.bring(tick, &outputs)).last().expect("ticks")
+    (1..=scenario.ticks).map(|tick| source.bring(tick, &outputs).expect("a scenario").expect("a tick")).last().expect("ticks")
 }
 
 #[test]
@@ -253,7 +252,7 @@ fn along_rx(sheet: &str, head: &str, rows: &str) -> History {
     let list = sheet::read(&file(&sheet)).expect("a sheet").list;
     let scenario = scenario::read(&file(&format!("seconds,breaker,automatic,drive,{head}\n{rows}"))).expect("a scenario");
     let source = Source::Scenario(Player::with_drive(&scenario, &list));
-    run::run(start(&list).expect("taken"), source, &mut Progress::usual(), |_| ()).expect("a run")
+    run::history(start(&list).expect("taken"), source).expect("a run")
 }
 
 #[test]

@@ -2,8 +2,6 @@
 
 mod common;
 
-use std::time::Duration;
-
 use common::{check_texts, defaults, file, Dice};
 use desk::band::bands;
 use desk::inputs::{with, SWITCHING};
@@ -11,7 +9,6 @@ use desk::names::CONTINUOUS;
 use desk::outputs::{HIGH, LOW};
 use desk::picture::{picture, View};
 use desk::play::{Player, Source};
-use desk::progress::{line, Progress};
 use desk::unit::start;
 use desk::{run, scenario, sheet};
 use library::{Brought, Sample, READINGS};
@@ -53,7 +50,7 @@ fn a_long_noisy_run_gives_a_small_picture() {
         (0..100_000).map(|_| tick(95.0 + dice.below(1000) as f32 / 100.0, 1 | dice.below(2) << 9)).collect();
     let list = four_voltages();
     let unit = start(&list).expect("taken");
-    let history = run::run(unit, Source::Recording(&ticks), &mut Progress::usual(), |_| ()).expect("a run");
+    let history = run::history(unit, Source::Recording(&mut ticks.iter().map(|tick| Ok(*tick)))).expect("a run");
     let text = picture(&history, &list, View::whole("<noise & \"quotes\">", history.ticks));
     assert!(text.len() < 600_000, "{}", text.len());
     assert!(text.contains("<title>&lt;noise &amp; &quot;quotes&quot;&gt;</title>"));
@@ -67,19 +64,11 @@ fn a_run_of_one_tick_and_readings_of_every_kind_can_be_drawn() {
             let mut brought = tick(0.0, 1);
             brought.readings = [Sample { quality, value }; READINGS];
             let unit = start(&list).expect("taken");
-            let history = run::run(unit, Source::Recording(&[brought]), &mut Progress::usual(), |_| ()).expect("a run");
+            let history = run::history(unit, Source::Recording(&mut [Ok(brought)].into_iter())).expect("a run");
             let text = picture(&history, &list, View::whole("one tick", history.ticks));
             assert!(!text.contains("NaN") && !text.contains("inf\""), "{value} {quality}");
         }
     }
-}
-
-#[test]
-fn progress_is_a_line() {
-    assert_eq!(line(720_000, 1_440_000), "avr:  50 %, tick 720000 of 1440000");
-    let mut progress = Progress::new(Duration::ZERO);
-    progress.tick(1 << 14, 1 << 15);
-    progress.end();
 }
 
 /// Everything at once.
@@ -125,7 +114,7 @@ fn a_crowded_picture_can_be_read() {
     let scenario = scenario::read(&file(CROWDED)).expect("a scenario");
     let unit = start(&list).expect("taken");
     let source = Source::Scenario(Player::with_drive(&scenario, &list));
-    let history = run::run(unit, source, &mut Progress::usual(), |_| ()).expect("a run");
+    let history = run::history(unit, source).expect("a run");
     let text = picture(&history, &list, View::whole("crowded", history.ticks));
     check_texts("crowded", &text);
     for words in ["U_supp1 100 V", "U_supp2 104 V", "I_set3 0.1 A", "trip: U2 over U_set4", "wrong BCD code", "in: oil_cold"] {
@@ -149,7 +138,7 @@ fn drawn(sheet: &str, scenario: &str) -> String {
     let scenario = scenario::read(&file(scenario)).expect("a scenario");
     let source = Source::Scenario(Player::with_drive(&scenario, &list));
     let unit = start(&list).expect("taken");
-    let history = run::run(unit, source, &mut Progress::usual(), |_| ()).expect("a run");
+    let history = run::history(unit, source).expect("a run");
     picture(&history, &list, View::whole("drawn", history.ticks))
 }
 
@@ -200,7 +189,7 @@ fn picture_of(continuous: u32, closed: bool) -> String {
     list[CONTINUOUS] = continuous;
     let ticks = [tick(100.0, 1), tick(100.0, with(1, SWITCHING, closed))];
     let unit = start(&list).expect("taken");
-    let history = run::run(unit, Source::Recording(&ticks), &mut Progress::usual(), |_| ()).expect("a run");
+    let history = run::history(unit, Source::Recording(&mut ticks.iter().map(|tick| Ok(*tick)))).expect("a run");
     picture(&history, &list, View::whole("contact", history.ticks))
 }
 

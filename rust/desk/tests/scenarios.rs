@@ -2,19 +2,19 @@
 
 mod common;
 
-use common::{bytes, defaults, file, Dice};
+use common::{defaults, file, recorded, to_csv, Dice};
 use desk::inputs::{is_on, SWITCHING};
 use desk::names::CONTINUOUS;
 use desk::outputs::RAISE;
 use desk::play::{Player, Source};
 use desk::recording::{BYTES, READING_BYTES};
-use desk::{cells, recording, scenario, show};
+use desk::{cells, recording, scenario};
 use library::{Brought, Sample, FIELDS, READINGS};
 
 fn ticks(text: &str) -> Vec<Brought> {
     let scenario = scenario::read(&file(text)).expect("a good scenario");
     let mut source = Source::Scenario(Player::new(&scenario));
-    (1..=scenario.ticks).map(|tick| source.bring(tick, &[0; FIELDS])).collect()
+    (1..=scenario.ticks).map(|tick| source.bring(tick, &[0; FIELDS]).expect("a scenario").expect("a tick")).collect()
 }
 
 fn problems(text: &str) -> Vec<String> {
@@ -23,7 +23,7 @@ fn problems(text: &str) -> Vec<String> {
 
 fn record(ticks: &[Brought]) -> Vec<u8> {
     let mut bytes = Vec::new();
-    ticks.iter().for_each(|tick| recording::push(&mut bytes, tick));
+    ticks.iter().for_each(|tick| bytes.extend(recording::bytes(tick)));
     bytes
 }
 
@@ -99,7 +99,7 @@ fn raised(text: &str, continuous: u32) -> Vec<Brought> {
     let mut source = Source::Scenario(Player::with_drive(&scenario, &list));
     let mut outputs = [0; FIELDS];
     outputs[RAISE] = 1;
-    (1..=scenario.ticks).map(|tick| source.bring(tick, &outputs)).collect()
+    (1..=scenario.ticks).map(|tick| source.bring(tick, &outputs).expect("a scenario").expect("a tick")).collect()
 }
 
 #[test]
@@ -139,10 +139,10 @@ fn chance(dice: &mut Dice) -> Brought {
 fn recordings_go_to_csv_and_back() {
     let mut dice = Dice(3);
     for _ in 0..40 {
-        let recorded: Vec<Brought> = (0..50).flat_map(|_| vec![chance(&mut dice); 1 + dice.below(3) as usize]).collect();
-        let csv = show::to_csv(&recorded);
-        assert_eq!(record(&ticks(&csv)), record(&recorded));
-        assert_eq!(recording::read(&bytes(record(&recorded))).expect("its own bytes"), recorded);
+        let made: Vec<Brought> = (0..50).flat_map(|_| vec![chance(&mut dice); 1 + dice.below(3) as usize]).collect();
+        let csv = to_csv(&made);
+        assert_eq!(record(&ticks(&csv)), record(&made));
+        assert_eq!(recorded(record(&made)).expect("its own bytes"), made);
     }
 }
 
@@ -174,9 +174,9 @@ fn a_tick_has_its_bytes_in_the_order_of_the_format() {
 }
 
 /// A scenario, HEAD standing for a header, and what is told of it.
-const BAD_SCENARIOS: [(&str, &str); 40] = [
-    ("", "file: no row is in it"),
-    ("# nothing\n", "file: no row is in it"),
+const BAD_SCENARIOS: [(&str, &str); 39] = [
+    ("", "file: no row is in it: its first row names the columns"),
+    ("# nothing\n", "file: no row is in it: its first row names the columns"),
     ("time,U_AB\n0,1\n1,end", "file:1: the first column must be `seconds` or `ticks`, and not `time`"),
     ("ticks,U_AC\n0,1\n1,end", "file:1: no column is called `U_AC`"),
     ("ticks,u_ab\n0,1\n1,end", "file:1: no column is called `u_ab`; U_AB is one"),
@@ -220,7 +220,6 @@ const BAD_SCENARIOS: [(&str, &str); 40] = [
     ("HEAD0,,,100\n2,end", "file:2: BCD: `100` is no BCD code: a tap from 0 to 99, or lines from 0x00 to 0xff"),
     ("HEAD0,,,,256\n2,end", "file:2: sensor: `256` is no sensor number: 0 to 255"),
     ("HEAD0,1\n1.5,2\n2,end", "file:3: the time `1.5` is no whole number of ticks"),
-    ("HEAD0,1\n20000001,end", "file:3: the time `20000001` is beyond 100000 s"),
     ("seconds,U_AB\n0,1\n0.001,2\n1,end", "file:3: the time `0.001` s is no whole number of ticks of 0.005 s"),
     ("seconds,U_AB\n0,1\nx,2\n1,end", "file:3: the time `x` is not a number"),
     (
@@ -243,6 +242,22 @@ fn bad_scenarios_are_told_with_their_line() {
     }
 }
 
+/// One limit and one sentence, however far beyond it a time is, in seconds, in ticks and of a drive.
+#[test]
+fn times_beyond_the_longest_run_are_told_alike() {
+    let far = "99999999999999999999999999";
+    for (head, time) in [("ticks", "20000001"), ("ticks", "4294967296"), ("ticks", far), ("seconds", "100000.005")] {
+        let told = format!("file:3: the time `{time}` is beyond 100000 s, 20000000 ticks, the longest run");
+        assert_eq!(problems(&format!("{head},U_AB\n0,1\n{time},end")), [told]);
+    }
+    for time in ["21474836.48", "100000.001", far] {
+        let told = format!("the time `{time}` is beyond 100000 s, 20000000 ticks, the longest run");
+        assert_eq!(problems(&format!("seconds,U_AB\n0,1\n{time},end")), [format!("file:3: {told}")]);
+        assert_eq!(problems(&format!("seconds,drive,drive_run\n0,ok,{time}\n1,end")), [format!("file:2: drive_run: {told}")]);
+    }
+    assert_eq!(scenario::read(&file("ticks,U_AB\n0,1\n20000000,end")).expect("the longest run").ticks, 20_000_000);
+}
+
 #[test]
 fn all_bad_rows_are_told_at_once() {
     assert_eq!(problems("ticks,U_AB\n0,1\n2,x\n3,y\n4,end").len(), 2);
@@ -250,7 +265,7 @@ fn all_bad_rows_are_told_at_once() {
 
 #[test]
 fn bad_recordings_are_told() {
-    let told = |bytes_: Vec<u8>| recording::read(&bytes(bytes_)).expect_err("a bad recording");
+    let told = |bytes_: Vec<u8>| recorded(bytes_).expect_err("a bad recording");
     assert_eq!(told(Vec::new()), ["file: no tick is recorded in it"]);
     let short = |tick: usize, got: usize| format!("file: tick {tick} is cut short: {got} of {BYTES} bytes");
     assert_eq!(told(vec![0; BYTES - 1]), [short(1, BYTES - 1)]);

@@ -69,7 +69,7 @@ fn the_ratings_decide_whether_the_unit_raises() {
     let (sheet, scenario) = (folder.write("a.txt", &equal.join("\n")), path("breaker-rating", "scenario.csv"));
     let output = avr(&["run", "--sheet", &sheet, "--scenario", &scenario]);
     assert!(output.status.success(), "{}", err(&output));
-    assert!(!out(&output).contains("command"), "{}", out(&output));
+    assert!(!out(&output).contains(" command\n"), "{}", out(&output));
     assert!(read("breaker-rating", "table.txt").contains("LOWER command"));
 }
 

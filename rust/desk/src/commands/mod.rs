@@ -1,50 +1,92 @@
-//! What each subcommand does. All is made before anything is written.
+//! What each subcommand does. All is made before anything is written, but for what is too long for that.
 
 pub mod run;
 pub mod scenario;
 pub mod sheet;
 
-use crate::columns;
-use crate::file::{Errors, File, Output};
-use crate::inputs::{Pair, PAIRS, READINGS};
+use crate::columns::{self, Column};
+use crate::file::{Errors, File, STANDARD};
+use crate::inputs::{Pair, PAIRS, READINGS, U_AB, U_AB_PAIR};
 use crate::names::{COMPENSATION_CURRENT, TABLE};
 use crate::scenario::Scenario;
 use crate::sheet::{explain, needed_pairs, Sheet};
+use crate::target::Target;
 use crate::unit::{self, Unit};
 use crate::value;
 
-/// What a command prints: on standard output, and as notes on standard error.
+/// What a command gives: to standard output, to files, and then notes on standard error.
 #[derive(Default)]
 pub struct Said {
-    pub out: String,
+    pub out: Vec<u8>,
+    pub files: Vec<(Target, Vec<u8>)>,
     pub notes: Vec<String>,
 }
 
-/// A remark for each pair that the sheet needs and no column gives.
-fn without_pairs(file: &File, scenario: &Scenario, sheet: &Sheet) -> Vec<String> {
-    let needed = needed_pairs(&sheet.list).iter().filter(|pair| !columns::gives_pair(&scenario.columns, **pair));
+impl Said {
+    pub fn out(text: String) -> Said {
+        Said { out: text.into_bytes(), ..Said::default() }
+    }
+
+    /// What goes to a target, and a note where it is a file.
+    fn put(&mut self, what: &str, target: Target, bytes: Vec<u8>) {
+        match target.is_standard() {
+            true => self.out = bytes,
+            false => {
+                self.notes.push(format!("avr: the {what} is in {}", target.name));
+                self.files.push((target, bytes));
+            }
+        }
+    }
+}
+
+/// Why a command was not done.
+pub enum Failure {
+    /// Its command line is wrong.
+    Usage(String),
+    /// A file is, or a sheet is refused.
+    Files(Errors),
+}
+
+impl From<Errors> for Failure {
+    fn from(errors: Errors) -> Failure {
+        Failure::Files(errors)
+    }
+}
+
+/// Standard input can be read once.
+fn read_once(inputs: &[&str]) -> Result<(), Failure> {
+    match inputs.iter().filter(|path| **path == STANDARD).count() {
+        0 | 1 => Ok(()),
+        _ => Err(Failure::Usage("standard input is asked for twice: give one of them as a file".to_string())),
+    }
+}
+
+/// Remarks on what the unit needs and no column gives.
+fn remarks(file: &File, scenario: &Scenario, sheet: &Sheet) -> Vec<String> {
+    let needed = sheet_pairs(scenario, sheet).map(|pair| without_pair(pair, sheet));
+    let remarks = without_voltage(scenario).into_iter().chain(needed);
+    remarks.map(|words| format!("avr: {}", file.says(&words))).collect()
+}
+
+fn sheet_pairs<'a>(scenario: &'a Scenario, sheet: &Sheet) -> impl Iterator<Item = usize> + 'a {
+    needed_pairs(&sheet.list).iter().copied().filter(|pair| !columns::gives_pair(&scenario.columns, *pair))
+}
+
+fn without_voltage(scenario: &Scenario) -> Option<String> {
+    let given = scenario.columns.contains(&Column::Reading(U_AB)) || columns::gives_pair(&scenario.columns, U_AB_PAIR);
+    (!given).then(|| "no column gives U_AB, so that it is 0 V: add U_AB".to_string())
+}
+
+fn without_pair(pair: usize, sheet: &Sheet) -> String {
+    let Pair { name, phasor, parts: [re, im] } = &PAIRS[pair];
+    let (re, im) = (READINGS[*re].name, READINGS[*im].name);
     let current = value::text(&TABLE[COMPENSATION_CURRENT], sheet.list[COMPENSATION_CURRENT]);
-    let remark = |pair: &usize| {
-        let Pair { name, phasor, parts: [re, im] } = &PAIRS[*pair];
-        let (re, im) = (READINGS[*re].name, READINGS[*im].name);
-        let words = format!(
-            "XB4 = RX with XB5 = {current} goes by {name} as a pair, which no column gives, so that it is 0: \
-             add {phasor}, or {re} and {im}"
-        );
-        format!("avr: {}", file.says(&words))
-    };
-    needed.map(remark).collect()
+    format!(
+        "XB4 = RX with XB5 = {current} goes by {name} as a pair, which no column gives, so that it is 0: \
+         add {phasor}, or {re} and {im}"
+    )
 }
 
 fn started(sheet: &Sheet) -> Result<Unit, Errors> {
     unit::start(&sheet.list).map_err(|refusal| vec![explain(&sheet.list, refusal)])
-}
-
-fn write(inputs: &[&str], targets: Vec<(&str, Vec<u8>)>) -> Result<(), Errors> {
-    let mut output = Output::new();
-    for (name, bytes) in targets {
-        output.add(name, bytes);
-    }
-    output.keep_apart(inputs)?;
-    output.write()
 }

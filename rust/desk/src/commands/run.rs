@@ -1,40 +1,77 @@
 //! `avr run`.
 
-use super::{started, without_pairs, write, Said};
-use crate::file::{Errors, File};
+use super::{read_once, remarks, started, Failure, Said};
+use crate::cells;
+use crate::file::{Errors, File, SCENARIO_MOST, SHEET_MOST, STANDARD};
 use crate::picture::{self, View};
 use crate::play::{Player, Source};
 use crate::progress::Progress;
-use crate::recording;
-use crate::run::{self, History};
+use crate::recording::Recording;
+use crate::run::{self, History, Window};
 use crate::scenario;
 use crate::sheet::{self, Sheet};
-use crate::table;
+use crate::summary::summary;
+use crate::table::{self, Form, Wanted, FORMS, SIDES};
+use crate::target::{targets, Target};
 use crate::words::Words;
 
-pub fn run(words: &Words) -> Result<Said, Errors> {
-    let sheet_name = words.needed("sheet");
-    let (name, is_recording) = source_name(words);
-    let sheet = sheet::read(&File::read(sheet_name)?)?;
-    let file = File::read(name)?;
+pub fn run(words: &Words) -> Result<Said, Failure> {
+    let (sheet_name, (name, is_recording)) = (words.needed("sheet"), source_name(words));
+    let wanted = wanted(words, !is_recording)?;
+    let [table, svg] = outputs(words, &[sheet_name, name])?;
+    let sheet = sheet::read(&File::read(sheet_name, SHEET_MOST)?)?;
     let mut said = Said::default();
     let history = match is_recording {
-        true => replayed(&sheet, &file)?,
-        false => played(&sheet, &file, &mut said.notes)?,
+        true => replayed(&sheet, name, wanted.window)?,
+        false => played(&sheet, name, wanted.window, &mut said.notes)?,
     };
     let title = words.option("title").unwrap_or_else(|| last_part(name));
-    let table = table::table(&history, &sheet.list, !is_recording);
-    let mut targets = Vec::new();
-    match words.option("table") {
-        Some(target) => targets.push((target, table.into_bytes())),
-        None => said.out = table,
+    tell(&mut said, &history, &sheet, wanted, table);
+    if let Some(target) = svg {
+        let view = View { title, from: wanted.window.from, to: wanted.window.to.min(history.ticks) };
+        said.put("picture", target, picture::picture(&history, &sheet.list, view).into_bytes());
     }
-    if let Some(target) = words.option("svg") {
-        targets.push((target, picture::picture(&history, &sheet.list, View::whole(title, history.ticks)).into_bytes()));
-        said.notes.push(format!("avr: the picture is in {target}"));
-    }
-    write(&[sheet_name, name], targets)?;
     Ok(said)
+}
+
+/// What the table holds. In a table of a recording readings change on every tick, and are left out.
+fn wanted(words: &Words, readings: bool) -> Result<Wanted, Failure> {
+    let form = one_of(words, "format", &FORMS)?;
+    let only = one_of(words, "only", &SIDES)?;
+    Ok(Wanted { form, only, readings, window: window(words)? })
+}
+
+/// The value that a word of an option names; the first one where it is not given.
+fn one_of<T: Copy>(words: &Words, option: &str, known: &[(&str, T)]) -> Result<T, Failure> {
+    let Some(word) = words.option(option) else { return Ok(known[0].1) };
+    let found = known.iter().find(|(name, _)| *name == word);
+    let names: Vec<&str> = known.iter().map(|(name, _)| *name).collect();
+    found.map(|(_, value)| *value).ok_or_else(|| Failure::Usage(format!("--{option} takes {}", names.join(" or "))))
+}
+
+fn window(words: &Words) -> Result<Window, Failure> {
+    let time = |option: &str, default: u32| match words.option(option) {
+        Some(text) => cells::seconds(text).map_err(|words| Failure::Usage(format!("--{option}: {words}"))),
+        None => Ok(default),
+    };
+    let window = Window { from: time("from", Window::WHOLE.from)?, to: time("to", Window::WHOLE.to)? };
+    match window.from < window.to {
+        true => Ok(window),
+        false => Err(Failure::Usage("--from must be before --to".to_string())),
+    }
+}
+
+/// Where the table and the picture go, looked at before the run.
+fn outputs(words: &Words, inputs: &[&str]) -> Result<[Option<Target>; 2], Failure> {
+    let (table, svg) = (words.option("table").unwrap_or(STANDARD), words.option("svg"));
+    read_once(inputs)?;
+    if table == STANDARD && svg == Some(STANDARD) {
+        let words = "table and picture would both be on standard output: give --table FILE or --svg FILE";
+        return Err(Failure::Usage(words.to_string()));
+    }
+    let paths: Vec<&str> = [table].into_iter().chain(svg).collect();
+    let mut targets = targets(&paths, inputs)?.into_iter();
+    Ok([targets.next(), targets.next()])
 }
 
 /// The scenario or the recording, and whether it is the latter.
@@ -49,14 +86,39 @@ fn last_part(name: &str) -> &str {
     name.rsplit('/').next().unwrap_or(name)
 }
 
-fn played(sheet: &Sheet, file: &File, notes: &mut Vec<String>) -> Result<History, Errors> {
-    let scenario = scenario::read(file)?;
-    notes.extend(without_pairs(file, &scenario, sheet));
-    let source = Source::Scenario(Player::with_drive(&scenario, &sheet.list));
-    run::run(started(sheet)?, source, &mut Progress::usual(), |_| ())
+/// The table, and the summary beside it unless standard output has that already.
+fn tell(said: &mut Said, history: &History, sheet: &Sheet, wanted: Wanted, target: Option<Target>) {
+    let Some(target) = target else { return };
+    let untold = !target.is_standard() || wanted.form == Form::Csv;
+    said.put("table", target, table::table(history, &sheet.list, wanted).into_bytes());
+    if untold {
+        said.notes.push(summary(history, &sheet.list).text().trim_end().to_string());
+    }
 }
 
-fn replayed(sheet: &Sheet, file: &File) -> Result<History, Errors> {
-    let ticks = recording::read(file)?;
-    run::run(started(sheet)?, Source::Recording(&ticks), &mut Progress::usual(), |_| ())
+fn played(sheet: &Sheet, name: &str, window: Window, notes: &mut Vec<String>) -> Result<History, Errors> {
+    let file = File::read(name, SCENARIO_MOST)?;
+    let scenario = scenario::read(&file)?;
+    notes.extend(remarks(&file, &scenario, sheet));
+    looked_at(sheet, Source::Scenario(Player::with_drive(&scenario, &sheet.list)), window)
+}
+
+fn replayed(sheet: &Sheet, name: &str, window: Window) -> Result<History, Errors> {
+    looked_at(sheet, Source::Recording(&mut Recording::open(name)?), window)
+}
+
+/// Runs a source, if it is long enough for the window.
+fn looked_at(sheet: &Sheet, source: Source, window: Window) -> Result<History, Errors> {
+    source.ticks().map_or(Ok(()), |ticks| reaches(ticks, window))?;
+    let history = run::run(started(sheet)?, source, window, &mut Progress::usual(), |_| Ok(()))?;
+    reaches(history.ticks, window)?;
+    Ok(history)
+}
+
+fn reaches(ticks: u32, window: Window) -> Result<(), Errors> {
+    let (from, end) = (cells::seconds_text(window.from), cells::seconds_text(ticks));
+    match window.from < ticks {
+        true => Ok(()),
+        false => Err(vec![format!("--from {from} is not before the end of the run, {end} s")]),
+    }
 }

@@ -1,60 +1,95 @@
-//! `avr scenario`.
+//! `avr scenario`. What it writes may be of a whole day, and is written as it is made.
+
+use std::io::{Cursor, Read};
 
 use library::FIELDS;
 
-use super::{started, without_pairs, write, Said};
-use crate::file::{Errors, File};
+use super::{read_once, remarks, started, Failure, Said};
+use crate::cells::LONGEST;
+use crate::file::{self, Errors, File, SCENARIO_MOST, SHEET_MOST, STANDARD};
 use crate::play::{Player, Source};
 use crate::progress::Progress;
-use crate::recording;
-use crate::run;
+use crate::recording::{self, Recording};
+use crate::run::{self, Window};
 use crate::scenario::{self, Scenario};
 use crate::sheet::{self, Sheet};
 use crate::show;
+use crate::shown;
+use crate::stream::Stream;
+use crate::target::{targets, Target};
 use crate::words::Words;
 
-pub fn write_recording(words: &Words) -> Result<Said, Errors> {
-    let name = &words.plain[0];
-    let target = words.needed("output");
-    let file = File::read(name)?;
+pub fn write_recording(words: &Words) -> Result<Said, Failure> {
+    let name = words.plain[0].as_str();
+    let inputs: Vec<&str> = [name].into_iter().chain(words.option("sheet")).collect();
+    read_once(&inputs)?;
+    let target = targets(&[words.needed("output")], &inputs)?.remove(0);
+    let sheet = words.option("sheet").map(|name| sheet::read(&File::read(name, SHEET_MOST)?)).transpose()?;
+    let file = File::read(name, SCENARIO_MOST)?;
     let scenario = scenario::read(&file)?;
-    let mut inputs = vec![name.as_str()];
-    let mut notes = Vec::new();
-    let bytes = match words.option("sheet") {
-        Some(sheet_name) => {
-            inputs.push(sheet_name);
-            let sheet = sheet::read(&File::read(sheet_name)?)?;
-            notes = without_pairs(&file, &scenario, &sheet);
-            recorded(&sheet, &scenario)?
+    let mut said = Said::default();
+    match &sheet {
+        Some(sheet) => {
+            said.notes = remarks(&file, &scenario, sheet);
+            record(sheet, &scenario, &target)?;
         }
         None if scenario.has_drive() => {
-            return Err(vec![format!("{name}: its simulated drive answers a unit: give the unit's sheet with --sheet")])
+            return Err(vec![file.says("its simulated drive answers a unit: give the unit's sheet with --sheet")].into())
         }
-        None => unanswered(&scenario),
-    };
-    write(&inputs, vec![(target, bytes)])?;
-    Ok(Said { out: format!("{target}: written, {} ticks\n", scenario.ticks), notes })
+        None => record_unanswered(&scenario, &target)?,
+    }
+    let ticks = shown::counted(scenario.ticks as usize, "tick");
+    said.notes.push(format!("avr: the RECORDING of {ticks} is in {}", target.name));
+    Ok(said)
 }
 
 /// The recording of a scenario that answers a unit.
-fn recorded(sheet: &Sheet, scenario: &Scenario) -> Result<Vec<u8>, Errors> {
-    let mut bytes = Vec::with_capacity(scenario.ticks as usize * recording::BYTES);
+fn record(sheet: &Sheet, scenario: &Scenario, target: &Target) -> Result<(), Errors> {
+    let unit = started(sheet)?;
     let source = Source::Scenario(Player::with_drive(scenario, &sheet.list));
-    run::run(started(sheet)?, source, &mut Progress::usual(), |brought| recording::push(&mut bytes, brought))?;
-    Ok(bytes)
+    let mut stream = Stream::open(target)?;
+    run::run(unit, source, Window::WHOLE, &mut Progress::usual(), |brought| stream.put(&recording::bytes(brought)))?;
+    stream.end()
 }
 
 /// The recording of a scenario without a drive, which needs no unit.
-fn unanswered(scenario: &Scenario) -> Vec<u8> {
-    let mut bytes = Vec::with_capacity(scenario.ticks as usize * recording::BYTES);
+fn record_unanswered(scenario: &Scenario, target: &Target) -> Result<(), Errors> {
     let mut source = Source::Scenario(Player::new(scenario));
-    for tick in 1..=scenario.ticks {
-        recording::push(&mut bytes, &source.bring(tick, &[0; FIELDS]));
+    let mut stream = Stream::open(target)?;
+    let mut tick = 1;
+    while let Some(brought) = source.bring(tick, &[0; FIELDS])? {
+        stream.put(&recording::bytes(&brought))?;
+        tick += 1;
     }
-    bytes
+    stream.end()
 }
 
-pub fn show_recording(words: &Words) -> Result<Said, Errors> {
-    let ticks = recording::read(&File::read(&words.plain[0])?)?;
-    Ok(Said { out: show::to_csv(&ticks), notes: Vec::new() })
+/// A recording is read twice: for its columns, and for its rows. Standard input is kept for that.
+pub fn show_recording(words: &Words) -> Result<Said, Failure> {
+    let path = words.plain[0].as_str();
+    let target = targets(&[STANDARD], &[path])?.remove(0);
+    let kept = if path == STANDARD { Some(standard_input()?) } else { None };
+    let open = || match &kept {
+        Some(bytes) => Ok(Recording::of(file::input_name(path), Box::new(Cursor::new(bytes)))),
+        None => Recording::open(path),
+    };
+    let columns = show::used(open()?)?;
+    let mut stream = Stream::open(&target)?;
+    show::rows(&columns, open()?, |line| {
+        stream.put(line.as_bytes())?;
+        Ok(!stream.gone)
+    })?;
+    stream.end()?;
+    Ok(Said::default())
+}
+
+/// Standard input, a little more than the longest recording at most.
+fn standard_input() -> Result<Vec<u8>, Errors> {
+    let most = (u64::from(LONGEST) + 1) * recording::BYTES as u64;
+    let mut bytes = Vec::new();
+    let read = file::open(STANDARD).and_then(|input| input.take(most).read_to_end(&mut bytes));
+    match read {
+        Ok(_) => Ok(bytes),
+        Err(error) => Err(vec![format!("{}: {}", file::input_name(STANDARD), file::why(&error))]),
+    }
 }

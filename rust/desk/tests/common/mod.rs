@@ -1,14 +1,41 @@
 //! What the tests share.
 #![allow(dead_code)]
 
+pub mod json;
 pub mod runs;
 
 use std::fs;
+use std::io::Cursor;
 use std::path::{Path, PathBuf};
 use std::process::{Command, Output};
 
-use desk::file::File;
+use desk::file::{Errors, File};
 use desk::names::{MODULE, TABLE};
+use desk::recording::Recording;
+use desk::run::Window;
+use desk::show;
+use desk::table::{Form, Only, Wanted};
+use library::Brought;
+
+/// All of a scenario's run, for people.
+pub const WHOLE_TABLE: Wanted = Wanted { form: Form::Text, only: Only::All, readings: true, window: Window::WHOLE };
+
+/// The ticks of a recording.
+pub fn recorded(bytes: Vec<u8>) -> Result<Vec<Brought>, Errors> {
+    Recording::of("file".to_string(), Box::new(Cursor::new(bytes))).collect()
+}
+
+/// Ticks as a scenario.
+pub fn to_csv(ticks: &[Brought]) -> String {
+    let ticks = || ticks.iter().map(|tick| Ok(*tick));
+    let mut text = String::new();
+    let put = |line: &str| {
+        text.push_str(line);
+        Ok(true)
+    };
+    show::rows(&show::used(ticks()).expect("columns"), ticks(), put).expect("rows");
+    text
+}
 
 pub fn file(text: &str) -> File {
     File { name: "file".to_string(), bytes: text.as_bytes().to_vec() }

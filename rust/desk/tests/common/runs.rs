@@ -2,13 +2,12 @@
 
 use desk::picture::{picture, View};
 use desk::play::{Player, Source};
-use desk::progress::Progress;
 use desk::run::{self, History};
 use desk::table::table;
 use desk::unit::start;
 use desk::{scenario, sheet};
 
-use super::file;
+use super::{file, WHOLE_TABLE};
 
 /// A drive with a contact: a move lasts 3.5 s from its command on.
 pub const IMPULSE: &str = "XB1 = on\nXB6 = counted\nT7 = 0.5 s\nN_pos = 9\nN_R = 17\n";
@@ -33,12 +32,12 @@ impl Run {
         let scenario = scenario::read(&file(&text)).expect("a scenario");
         let source = Source::Scenario(Player::with_drive(&scenario, &list));
         let unit = start(&list).expect("taken");
-        let history = run::run(unit, source, &mut Progress::usual(), |_| ()).expect("a run");
+        let history = run::history(unit, source).expect("a run");
         Run { list, history }
     }
 
     pub fn table(&self) -> String {
-        table(&self.history, &self.list, true)
+        table(&self.history, &self.list, WHOLE_TABLE)
     }
 
     pub fn picture(&self) -> String {
@@ -55,7 +54,7 @@ impl Run {
     /// The ticks of the table's lines that begin so, with what they go on with.
     pub fn lines(&self, side: &str) -> Vec<(u32, String)> {
         let (mut tick, mut lines) = (0, Vec::new());
-        for line in self.table().lines().skip(1) {
+        for line in self.table().lines().skip(1).take_while(|line| !line.is_empty()) {
             tick = line[11..22].trim().parse().unwrap_or(tick);
             if let Some(words) = line[24..].strip_prefix(side) {
                 lines.push((tick, words.to_string()));

@@ -1,0 +1,54 @@
+//! A table as JSON, for other programs.
+
+use crate::summary::{Spell, Summary};
+use crate::table::{seconds, Change};
+
+/// The changes of a run, and what it comes to.
+pub fn document(changes: &[Change], summary: &Summary) -> String {
+    let changes: Vec<String> = changes.iter().map(change).collect();
+    format!("{{\n\"changes\": [\n{}\n],\n\"summary\": {}\n}}\n", changes.join(",\n"), of(summary))
+}
+
+fn change(Change { tick, side, name, value, words }: &Change) -> String {
+    let (name, value, words) = (string(name), string(value), string(words));
+    let seconds = seconds(*tick);
+    format!(
+        r#"{{"seconds": {seconds}, "tick": {tick}, "side": "{side}", "name": {name}, "value": {value}, "change": {words}}}"#
+    )
+}
+
+fn of(summary: &Summary) -> String {
+    let mut fields = vec![
+        field("ticks", summary.ticks.to_string()),
+        field("seconds", seconds(summary.ticks)),
+        field("raises", summary.raises.to_string()),
+        field("lowers", summary.lowers.to_string()),
+        field("operations", summary.operations.map_or("null".to_string(), |(first, last)| format!("[{first}, {last}]"))),
+        field("worn", summary.worn.to_string()),
+        field("low_seconds", seconds(summary.low.ticks)),
+        field("high_seconds", seconds(summary.high.ticks)),
+    ];
+    fields.extend(summary.groups.iter().map(|(heading, spells)| field(heading, list(spells))));
+    format!("{{{}}}", fields.join(", "))
+}
+
+fn field(name: &str, value: String) -> String {
+    format!("{}: {value}", string(name))
+}
+
+fn list(spells: &[Spell]) -> String {
+    let one = |Spell { name, times, ticks }: &Spell| {
+        format!(r#"{{"name": {}, "times": {times}, "seconds": {}}}"#, string(name), seconds(*ticks))
+    };
+    format!("[{}]", spells.iter().map(one).collect::<Vec<_>>().join(", "))
+}
+
+/// A text in quotes.
+fn string(text: &str) -> String {
+    let plain = |letter: char| match letter {
+        '"' | '\\' => format!("\\{letter}"),
+        _ if letter.is_control() => format!("\\u{:04x}", letter as u32),
+        _ => letter.to_string(),
+    };
+    format!("\"{}\"", text.chars().map(plain).collect::<String>())
+}
