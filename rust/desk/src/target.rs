@@ -13,7 +13,7 @@ use crate::shown;
 pub struct Target {
     /// Its name in messages.
     pub name: String,
-    /// The file behind links; none for standard output.
+    /// The file; none for standard output.
     path: Option<PathBuf>,
 }
 
@@ -121,11 +121,14 @@ fn try_new(path: &Path) -> io::Result<()> {
     fs::remove_file(path)
 }
 
-/// The file that a path names, behind its links, there or not.
+/// The file that a path names: behind its links where that is not there yet, so that it can be made and removed.
 fn behind(path: &str) -> PathBuf {
     const MOST_LINKS: usize = 40;
     let mut place = PathBuf::from(path);
     for _ in 0..MOST_LINKS {
+        if place.exists() {
+            break;
+        }
         match fs::read_link(&place) {
             Ok(next) => place = place.parent().unwrap_or(Path::new("")).join(next),
             Err(_) => break,

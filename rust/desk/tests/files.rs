@@ -11,7 +11,7 @@ use std::process::{Command, Output, Stdio};
 use std::rc::Rc;
 use std::time::{Duration, Instant};
 
-use common::{avr, err, examples, out, Folder};
+use common::{avr, err, out, Folder};
 use desk::progress::{line, Progress};
 use desk::recording;
 
@@ -172,6 +172,7 @@ fn standard_input_and_output_stand_for_a_dash() {
     let usual = out(&desk.run(&[]));
     assert_eq!(out(&piped(&["run", "--sheet", "-", "--scenario", &desk.csv], &desk.sheet)), usual);
     assert_eq!(out(&piped(&["run", "--sheet", &desk.sheet, "--scenario", "-", "--table", "-"], &desk.csv)), usual);
+    assert_eq!(out(&desk.run(&["--table", "/dev/stdout"])), usual);
     let picture = piped(&["run", "--sheet", &desk.sheet, "--scenario", "-", "--table", "/dev/null", "--svg", "-"], &desk.csv);
     assert!(out(&picture).starts_with("<svg ") && out(&picture).ends_with("</svg>\n"));
     let (file, recording) = (desk.folder.path("a.rec"), avr(&["scenario", "write", &desk.csv, "-o", "-"]).stdout);
@@ -295,15 +296,20 @@ fn a_full_standard_error_is_no_trouble() {
     assert_eq!(command.arg("fly").stderr(full()).output().expect("avr runs").status.code(), Some(2));
 }
 
-/// The examples leave nothing beside what was asked for.
+/// A run that is ended from outside leaves its target as it was, and nothing beside it.
 #[test]
-fn no_part_is_left_beside_a_target() {
-    let folder = Folder::new("parts");
-    let place = |name: &str| examples().join("two-steps").join(name).to_str().expect("a plain path").to_string();
-    let (table, svg) = (folder.path("t"), folder.path("p"));
-    let words = ["run", "--sheet", &place("sheet.txt"), "--scenario", &place("scenario.csv"), "--table", &table, "--svg", &svg];
-    assert!(avr(&words).status.success());
-    assert_eq!(folder.names(), ["p", "t"]);
+fn a_run_that_is_killed_leaves_nothing_behind() {
+    let desk = Desk::new("killed");
+    let long = desk.folder.write("long.csv", "seconds,U_AB\n0,98\n100000,end\n");
+    let (table, svg) = (desk.folder.write("t", "old"), desk.folder.path("p"));
+    let mut command = Command::new(env!("CARGO_BIN_EXE_avr"));
+    command.args(["run", "--sheet", &desk.sheet, "--scenario", &long, "--table", &table, "--svg", &svg]);
+    let mut child = command.spawn().expect("avr runs");
+    std::thread::sleep(Duration::from_millis(300));
+    assert_eq!(child.try_wait().expect("a look"), None, "it runs for longer");
+    child.kill().and_then(|()| child.wait()).expect("its end");
+    assert_eq!(desk.folder.names(), ["a.csv", "a.txt", "long.csv", "t"]);
+    assert_eq!(fs::read_to_string(&table).expect("still there"), "old");
 }
 
 /// A terminal of a test: what was written on it.
