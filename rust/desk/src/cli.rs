@@ -25,7 +25,7 @@ struct Command {
     act: fn(&Words) -> Result<Said, Failure>,
 }
 
-const COMMANDS: [Command; 5] = [
+const COMMANDS: [Command; 7] = [
     Command {
         path: &["sheet", "check"],
         help: help::SHEET_CHECK,
@@ -37,6 +37,18 @@ const COMMANDS: [Command; 5] = [
         help: help::SHEET_SHOW,
         takes: Takes { plain: 1, options: &[], needed: &[] },
         act: commands::sheet::show,
+    },
+    Command {
+        path: &["sheet", "template"],
+        help: help::SHEET_TEMPLATE,
+        takes: Takes { plain: 0, options: &["output", "module"], needed: &[] },
+        act: commands::sheet::template,
+    },
+    Command {
+        path: &["sheet", "diff"],
+        help: help::SHEET_DIFF,
+        takes: Takes { plain: 2, options: &[], needed: &[] },
+        act: commands::sheet::diff,
     },
     Command {
         path: &["scenario", "write"],
@@ -91,13 +103,20 @@ fn general(words: &[String]) -> ExitCode {
         ["sheet", "--help" | "-h"] => print(help::SHEET.as_bytes()),
         ["scenario", "--help" | "-h"] => print(help::SCENARIO.as_bytes()),
         [] => misuse("a subcommand is missing"),
-        ["sheet"] => misuse("sheet check, or sheet show?"),
-        ["scenario"] => misuse("scenario write, or scenario show?"),
+        [group @ ("sheet" | "scenario")] => misuse(&format!("{}?", subcommands(group))),
         [group @ ("sheet" | "scenario"), word, ..] => {
-            misuse(&format!("no subcommand is called `{group} {}`", shown::text(word)))
+            misuse(&format!("no subcommand is called `{group} {}`: {}?", shown::text(word), subcommands(group)))
         }
         [word, ..] => misuse(&format!("no subcommand is called `{}`", shown::text(word))),
     }
+}
+
+/// The subcommands of a group, `scenario write, or scenario show`.
+fn subcommands(group: &str) -> String {
+    let of_group = COMMANDS.iter().filter(|command| command.path[0] == group);
+    let mut names: Vec<String> = of_group.map(|command| command.path.join(" ")).collect();
+    let last = names.pop().unwrap_or_default();
+    format!("{}, or {last}", names.join(", "))
 }
 
 fn perform(command: &Command, words: &[String]) -> ExitCode {

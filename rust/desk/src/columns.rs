@@ -25,15 +25,19 @@ pub enum Setting {
     Start,
     Run,
     Tap,
+    Lowest,
+    Highest,
     Step,
     Sliding,
 }
 
-const DRIVE: [(&str, Setting); 6] = [
+const DRIVE: [(&str, Setting); 8] = [
     ("drive", Setting::Temper),
     ("drive_start", Setting::Start),
     ("drive_run", Setting::Run),
     ("drive_tap", Setting::Tap),
+    ("drive_lowest", Setting::Lowest),
+    ("drive_highest", Setting::Highest),
     ("drive_step", Setting::Step),
     ("drive_sliding", Setting::Sliding),
 ];
@@ -134,6 +138,16 @@ fn check_drive(columns: &[Column]) -> Result<(), String> {
     }
 }
 
+/// What a column is that may stand in the first row only.
+pub fn of_start(column: Column) -> Option<&'static str> {
+    match column {
+        Column::Drive(Setting::Tap) => Some("the tap at the start"),
+        Column::Drive(Setting::Lowest) => Some("the drive's lowest tap"),
+        Column::Drive(Setting::Highest) => Some("the drive's highest tap"),
+        _ => None,
+    }
+}
+
 /// Puts a cell in its place.
 pub fn put(standing: &mut Standing, column: Column, text: &str) -> Result<(), String> {
     let brought = &mut standing.brought;
@@ -168,7 +182,9 @@ fn put_drive(nature: &mut Nature, setting: Setting, text: &str) -> Result<(), St
         }
         Setting::Start => nature.start = cells::seconds(text)?,
         Setting::Run => nature.run = cells::seconds(text)?,
-        Setting::Tap => nature.tap = cells::tap(text)?,
+        Setting::Tap => nature.tap = Some(cells::tap(text)?),
+        Setting::Lowest => nature.lowest = Some(cells::tap(text)?),
+        Setting::Highest => nature.highest = Some(cells::tap(text)?),
         Setting::Step => nature.step = cells::volts(text)?,
         Setting::Sliding => nature.sliding = cells::taps(text)?,
     }

@@ -1,23 +1,13 @@
 //! The simulated drive of the tap changer, which answers the unit's commands, well or badly. This one has a switching contact;
 //! `motor.rs` has the one without.
 
+use crate::ends::Ends;
+
 /// Where a move goes.
 #[derive(Clone, Copy, Debug, PartialEq, Eq)]
 pub enum Way {
     Raise,
     Lower,
-}
-
-const LOWEST: u8 = 1;
-const HIGHEST: u8 = 79;
-
-impl Way {
-    pub fn tap_after(self, tap: u8) -> u8 {
-        match self {
-            Way::Raise => (tap + 1).min(HIGHEST),
-            Way::Lower => (tap - 1).max(LOWEST),
-        }
-    }
 }
 
 /// What the drive does.
@@ -54,21 +44,24 @@ pub const TEMPERS: [(&str, Temper); 5] = [
     ("self-lower", Temper::SelfLower),
 ];
 
-/// The drive as a row of the scenario sets it; times in ticks, the step of a tap in V.
+/// The drive as a row of the scenario sets it; times in ticks, the step of a tap in V. Taps that are none are the sheet's.
 #[derive(Clone, Debug, PartialEq)]
 pub struct Nature {
     pub temper: Temper,
     pub start: u32,
     pub run: u32,
-    pub tap: u8,
+    pub tap: Option<u8>,
+    pub lowest: Option<u8>,
+    pub highest: Option<u8>,
     pub step: f64,
     pub sliding: Vec<u8>,
 }
 
 impl Default for Nature {
-    /// Half a second to start, three seconds a move, 1.5 V a tap, from tap 20.
+    /// Half a second to start, three seconds a move, 1.5 V a tap.
     fn default() -> Nature {
-        Nature { temper: Temper::Ok, start: 100, run: 600, tap: 20, step: 1.5, sliding: Vec::new() }
+        let (temper, sliding) = (Temper::Ok, Vec::new());
+        Nature { temper, start: 100, run: 600, tap: None, lowest: None, highest: None, step: 1.5, sliding }
     }
 }
 
@@ -121,14 +114,15 @@ impl Supply {
 pub struct Drive {
     pub tap: u8,
     pub supply: Supply,
+    ends: Ends,
     state: State,
     commanded: bool,
     temper: Option<Temper>,
 }
 
 impl Drive {
-    pub fn new(tap: u8) -> Drive {
-        Drive { tap, supply: Supply::default(), state: State::Quiet, commanded: false, temper: None }
+    pub fn new(tap: u8, ends: Ends) -> Drive {
+        Drive { tap, ends, supply: Supply::default(), state: State::Quiet, commanded: false, temper: None }
     }
 
     /// One tick: whether the switching contact is closed.
@@ -142,7 +136,8 @@ impl Drive {
             return false;
         }
         if self.state == State::Quiet {
-            self.state = stir(nature, fresh, alone);
+            let free = |way: &Way| self.ends.free(self.tap, *way);
+            self.state = stir(nature, fresh.filter(free), alone.filter(free));
         }
         self.step(nature, seen.command)
     }
@@ -174,17 +169,17 @@ impl Drive {
         false
     }
 
-    /// The next tap; from a sliding one the drive soon goes on by itself.
+    /// The next tap; from a sliding one that is no end the drive soon goes on by itself.
     fn arrive(&mut self, nature: &Nature, way: Way) {
-        self.tap = way.tap_after(self.tap);
-        self.state = match nature.sliding.contains(&self.tap) {
+        self.tap = self.ends.next(self.tap, way).unwrap_or(self.tap);
+        self.state = match nature.sliding.contains(&self.tap) && self.ends.free(self.tap, way) {
             true => State::Starting { way, left: nature.start.max(1) - 1, alone: true },
             false => State::Quiet,
         };
     }
 }
 
-/// What a quiet drive begins.
+/// What a quiet drive begins, by a command or by itself, either way being free.
 fn stir(nature: &Nature, fresh: Option<Way>, alone: Option<Way>) -> State {
     let left = nature.start.max(1) - 1;
     match (fresh, alone) {

@@ -5,12 +5,16 @@ avr - try a setting sheet of the voltage regulator on the desk
 
 usage: avr sheet check FILE [-o SHEET]
        avr sheet show SHEET
+       avr sheet template [-o FILE] [--module 5]
+       avr sheet diff A B
        avr scenario write FILE -o RECORDING [--sheet FILE]
        avr scenario show RECORDING
        avr run --sheet FILE (--scenario FILE | --recording FILE) [--table FILE] [--svg FILE] [more]
 
   sheet check     say whether a sheet in text is taken, and why not; write the binary SHEET
   sheet show      turn a SHEET back into text
+  sheet template  print a sheet to begin with: every setting, its default, what it takes and what it means
+  sheet diff      tell the settings in which two sheets differ
   scenario write  turn a CSV scenario into a binary RECORDING
   scenario show   turn a RECORDING back into CSV
   run             run the unit: a table of what changed, and a picture
@@ -26,6 +30,8 @@ its disk fills up, one that stood there is lost, which the message says.
 pub const SHEET: &str = "\
 usage: avr sheet check FILE [-o SHEET]
        avr sheet show SHEET
+       avr sheet template [-o FILE] [--module 5]
+       avr sheet diff A B
 ";
 
 pub const SHEET_CHECK: &str = "\
@@ -33,6 +39,8 @@ usage: avr sheet check FILE [-o SHEET]
 
 Says whether the unit takes the sheet in FILE, and if not, why: name, value, range and step or what else it must be, and the
 refusal's number and slot.
+A line `advice` tells of settings that are taken and hardly meant so: what is odd, what the unit will do, and what to do. It is
+no refusal, and the exit status is 0.
 With -o, --output: writes the binary SHEET, a number of 32 bits for each setting, least byte first.
 
 FILE is text: `name = value` a line, `#` begins a comment. The names are those of the manual's table of settings; one that is
@@ -50,13 +58,31 @@ left out has its default. Values are in V, A, ohm and s, or words:
     N1 = empty          # or a sliding tap
     T2 = raw 12000      # the slot's number as it is in the SHEET
 
-`avr sheet show` lists all names. FILE may also be a SHEET.
+`avr sheet template` lists all settings. FILE may also be a SHEET.
 ";
 
 pub const SHEET_SHOW: &str = "\
 usage: avr sheet show SHEET
 
 Prints a binary SHEET as text, all settings with what they mean. A SHEET that the unit refuses is told as `sheet check` does.
+";
+
+pub const SHEET_TEMPLATE: &str = "\
+usage: avr sheet template [-o FILE] [--module 5]
+
+Prints a sheet in text to begin with: every setting with its default, what it takes and what it means. Keep the lines that you
+change; `avr sheet check` judges the sheet.
+
+  -o, --output FILE  write it there, and not on standard output
+  --module 1 or 5    the module, by its rated current in A: the ranges and defaults of I_set1 to I_set3, R_set and X_set go by
+                     it (1)
+";
+
+pub const SHEET_DIFF: &str = "\
+usage: avr sheet diff A B
+
+Tells the settings in which two sheets differ, each a text or a SHEET: a line for each setting, with its value in A, its value
+in B and what it means, and at last how many there are. What a text leaves out has its default.
 ";
 
 pub const SCENARIO: &str = "\
@@ -82,11 +108,12 @@ comment line. A column that is not there is 0.
     90,end
 
   readings        U_AB 3U0 U2 (V), I_high I_bus I_coupler (A): `98.2`, `98.2 held`, `invalid`. The unit counts the nearest
-                  mV or mA, a half going up. Missing to it is what is invalid, no number (nan, inf), below 0, or above 200 V
-                  or 40 times I_nom: 40 A with I_nom = 1 A, 200 A with 5 A. A run tells what was missing.
+                  mV or mA, a half going up. A reading is missing if it is invalid, no number (nan, inf), below 0, or above
+                  200 V or 40 times I_nom: 40 A with I_nom = 1 A, 200 A with 5 A. Table, picture and summary tell which.
   pairs           U_AB_re U_AB_im (V), I_bus_re I_bus_im I_coupler_re I_coupler_im (A): real and imaginary part, for XB4 = RX;
-                  as readings, and also below 0 to the same bounds: `-0.4`. In place of two parts U_AB_phasor, I_bus_phasor or I_coupler_phasor,
-                  magnitude and degrees: `0.8@-30`, `0.8@-30 held`, `invalid`. A current at -30 lags a U_AB at 0 by 30.
+                  as readings, and also below 0, as far: `-0.4`. In place of two parts U_AB_phasor, I_bus_phasor or
+                  I_coupler_phasor, magnitude and degrees: `0.8@-30`, `0.8@-30 held`, `invalid`. A current at -30 lags a U_AB
+                  at 0 by 30.
   contacts        breaker switching supply_off oil_cold oil_low oil_high end_up end_down ext_overcurrent ext_block
                   ext_raise_block ext_lower_block reset out automatic local U_supp2 U_supp3 U_supp4 raise lower remote
                   remote_raise remote_lower: 1 or 0, on or off, closed or open. In manual mode the panel's raise and lower act
@@ -98,11 +125,15 @@ comment line. A column that is not there is 0.
   BCD             the tap on the lines, `24`, or the lines themselves, `0x1a`
   sensor          0 to 255
   drive           the simulated drive: ok, does-not-start, runs-on (a move does not end), self-raise, self-lower (closes once
-                  by itself). It gives the switching contact, and BCD and sensor where these have no column.
+                  by itself). It gives the switching contact, and BCD, sensor, end_up and end_down where these have no column.
   drive_start     seconds from a command to the contact (0.5)
   drive_run       seconds the contact stays closed, after which the tap is there (3)
-  drive_tap       the tap at the start (20)
-  drive_step      volts that one tap adds to U_AB, which is the voltage at drive_tap (1.5); to the pair's magnitude, too
+  drive_tap       the tap at the start (the sheet's N_pos)
+  drive_lowest    and drive_highest, the taps at its ends (the sheet's N_L and N_R). There it does not start a move further, nor
+                  goes on. It closes end_up at the end that a raise comes to, end_down at the other. A drive_tap outside its ends
+                  is one. These three stand in the first row only.
+  drive_step      volts that one raise adds to U_AB, which is the voltage at drive_tap (1.5); to the pair's magnitude, too. A
+                  raise goes to the next tap, with XB6 = counted-reversed to the one before.
   drive_sliding   taps from which the drive goes on by itself, `9 10`, or none (none)
 
 With XB2 = continuous in the sheet the drive has no switching contact, which stays open. It moves while its command is on: it
@@ -110,7 +141,7 @@ begins drive_start after the command, and is one tap further after each drive_ru
 up a tap that is not done. Of such a drive
 
   does-not-start  hears no command, so that an automatic one ends as 'long'
-  runs-on         does not stop with its command, nor for the other one; only its supply stops it
+  runs-on         does not stop with its command, nor for the other one; only its supply or its end stops it
   self-raise      and self-lower take one tap by themselves; no fault tells of it
   drive_sliding   are taps at which it does not stop, but goes on to the next
 

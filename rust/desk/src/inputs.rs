@@ -73,6 +73,8 @@ pub struct Contact {
 
 pub const SWITCHING: u32 = bit("switching");
 pub const SUPPLY_OFF: u32 = bit("supply_off");
+pub const END_UP: u32 = bit("end_up");
+pub const END_DOWN: u32 = bit("end_down");
 pub const RESET: u32 = bit("reset");
 pub const U_SUPP2: u32 = bit("U_supp2");
 

@@ -2,13 +2,16 @@
 
 #![forbid(unsafe_code)]
 
+pub mod advice;
 pub mod band;
 pub mod cells;
 pub mod cli;
 pub mod columns;
 pub mod commands;
 pub mod decimal;
+pub mod diff;
 pub mod drive;
+pub mod ends;
 pub mod file;
 pub mod help;
 pub mod inputs;
@@ -26,6 +29,7 @@ pub mod play;
 pub mod press;
 pub mod progress;
 pub mod recording;
+pub mod rows;
 pub mod run;
 pub mod same;
 pub mod scale;
@@ -39,6 +43,7 @@ pub mod summary;
 pub mod svg;
 pub mod table;
 pub mod target;
+pub mod template;
 pub mod thin;
 pub mod unit;
 pub mod value;

@@ -2,6 +2,7 @@
 //! voltage tell of it.
 
 use crate::drive::{Nature, Seen, Supply, Temper, Way};
+use crate::ends::Ends;
 
 /// A motion towards the next tap.
 #[derive(Clone, Copy, Debug, PartialEq)]
@@ -19,39 +20,42 @@ struct Turn {
 pub struct Motor {
     pub tap: u8,
     pub supply: Supply,
+    ends: Ends,
     turn: Option<Turn>,
     temper: Option<Temper>,
 }
 
 impl Motor {
-    pub fn new(tap: u8) -> Motor {
-        Motor { tap, supply: Supply::default(), turn: None, temper: None }
+    pub fn new(tap: u8, ends: Ends) -> Motor {
+        Motor { tap, ends, supply: Supply::default(), turn: None, temper: None }
     }
 
     /// One tick.
     pub fn tick(&mut self, nature: &Nature, seen: Seen) {
         self.supply.tick(seen);
         let alone = nature.temper.alone(self.temper.replace(nature.temper));
+        let free = |way: &Way| self.ends.free(self.tap, *way);
         let turning = self.turn.filter(|turn| goes_on(nature, *turn, seen.command));
         self.turn = match self.supply.off {
             true => None,
-            false => turning.or_else(|| stir(nature, seen.command, alone)),
+            false => turning.or_else(|| stir(nature, seen.command.filter(free), alone.filter(free))),
         };
         if let Some(turn) = self.turn {
             self.advance(nature, turn);
         }
     }
 
-    /// A tick of a motion. At the tap the next one begins; from a sliding one also without a command.
+    /// A tick of a motion. At the tap the next one begins, from a sliding one also without a command; at the end none does.
     fn advance(&mut self, nature: &Nature, turn: Turn) {
         let ticks = turn.ticks.saturating_add(1);
         if ticks < turn.start.saturating_add(nature.run.max(1)) {
             self.turn = Some(Turn { ticks, ..turn });
             return;
         }
-        self.tap = turn.way.tap_after(self.tap);
+        self.tap = self.ends.next(self.tap, turn.way).unwrap_or(self.tap);
         let alone = nature.sliding.contains(&self.tap);
-        self.turn = Some(Turn { way: turn.way, start: 0, ticks: 0, alone });
+        let next = Turn { way: turn.way, start: 0, ticks: 0, alone };
+        self.turn = self.ends.free(self.tap, turn.way).then_some(next);
     }
 }
 
@@ -60,7 +64,7 @@ fn goes_on(nature: &Nature, turn: Turn, command: Option<Way>) -> bool {
     turn.alone || nature.temper == Temper::RunsOn || command == Some(turn.way)
 }
 
-/// What a drive at rest begins. A command that is on is heard, however old.
+/// What a drive at rest begins, by a command or by itself, either way being free. A command that is on is heard, however old.
 fn stir(nature: &Nature, command: Option<Way>, alone: Option<Way>) -> Option<Turn> {
     let heard = command.filter(|_| nature.temper != Temper::DoesNotStart);
     let by_command = heard.map(|way| Turn { way, start: nature.start.max(1), ticks: 0, alone: false });

@@ -26,7 +26,7 @@ pub const OPERATIONS: usize = at("operations");
 pub const WORN: usize = at("worn: N_max reached");
 
 /// The field of a short name, found while the tool is compiled.
-const fn at(name: &str) -> usize {
+pub const fn at(name: &str) -> usize {
     let mut field = 0;
     while !same(SHORT[field], name) {
         field += 1;

@@ -5,8 +5,9 @@ use library::{Brought, Sample, FIELDS, INVALID};
 use crate::cells::lines_of;
 use crate::columns::{self, Column};
 use crate::drive::{Drive, Nature, Seen, Way};
+use crate::ends::{first_tap, Ends};
 use crate::file::Errors;
-use crate::inputs::{is_on, with, RESET, SUPPLY_OFF, SWITCHING, U_AB, U_AB_PAIR};
+use crate::inputs::{is_on, with, END_DOWN, END_UP, RESET, SUPPLY_OFF, SWITCHING, U_AB, U_AB_PAIR};
 use crate::motor::Motor;
 use crate::outputs::{LOWER, RAISE, SUPPLY_TRIP};
 use crate::phasor;
@@ -43,10 +44,17 @@ impl Source<'_> {
     }
 }
 
-/// The simulated drive, with a switching contact or without.
-enum Simulated {
+/// A drive with a switching contact or without.
+enum Kind {
     Drive(Drive),
     Motor(Motor),
+}
+
+/// The simulated drive: its ends, and the tap at which it began.
+struct Simulated {
+    kind: Kind,
+    ends: Ends,
+    first: u8,
 }
 
 /// What a drive shows on a tick.
@@ -58,23 +66,75 @@ struct Shown {
 
 impl Simulated {
     /// The kind that the sheet `list` regulates.
-    fn new(list: &[u32], tap: u8) -> Simulated {
-        match is_continuous(list) {
-            true => Simulated::Motor(Motor::new(tap)),
-            false => Simulated::Drive(Drive::new(tap)),
-        }
+    fn new(list: &[u32], nature: &Nature) -> Simulated {
+        let (ends, first) = (Ends::new(nature, list), first_tap(nature, list));
+        let kind = match is_continuous(list) {
+            true => Kind::Motor(Motor::new(first, ends)),
+            false => Kind::Drive(Drive::new(first, ends)),
+        };
+        Simulated { kind, ends, first }
     }
 
     fn tick(&mut self, nature: &Nature, seen: Seen) -> Shown {
-        match self {
-            Simulated::Drive(drive) => {
+        match &mut self.kind {
+            Kind::Drive(drive) => {
                 let switching = drive.tick(nature, seen);
                 Shown { switching, supply_off: drive.supply.off, tap: drive.tap }
             }
-            Simulated::Motor(motor) => {
+            Kind::Motor(motor) => {
                 motor.tick(nature, seen);
                 Shown { switching: false, supply_off: motor.supply.off, tap: motor.tap }
             }
+        }
+    }
+
+    /// What the drive adds to the row: its contacts, its tap and the tap's voltage.
+    fn answer(&self, mut brought: Brought, given: Given, nature: &Nature, shown: &Shown) -> Brought {
+        brought.contacts = self.contacts(brought.contacts, given, shown);
+        if !given.bcd {
+            brought.bcd = lines_of(shown.tap);
+        }
+        if !given.sensor {
+            brought.sensor = shown.tap;
+        }
+        let volts = f64::from(self.ends.raises(self.first, shown.tap)) * nature.step;
+        if given.u_ab {
+            brought.readings[U_AB] = shifted(brought.readings[U_AB], volts);
+        }
+        let pair = columns::pair(&brought, U_AB_PAIR);
+        columns::put_pair(&mut brought, U_AB_PAIR, phasor::lengthened(pair, volts));
+        brought
+    }
+
+    /// The row's contacts with those of the drive.
+    fn contacts(&self, contacts: u32, given: Given, shown: &Shown) -> u32 {
+        let ends = [(END_UP, given.end_up, Way::Raise), (END_DOWN, given.end_down, Way::Lower)];
+        let drives = ends.into_iter().filter(|(_, given, _)| !given);
+        let contacts = drives.fold(contacts, |all, (bit, _, way)| with(all, bit, !self.ends.free(shown.tap, way)));
+        let supply_off = shown.supply_off || is_on(contacts, SUPPLY_OFF);
+        with(with(contacts, SWITCHING, shown.switching), SUPPLY_OFF, supply_off)
+    }
+}
+
+/// What columns give, in place of the drive.
+#[derive(Clone, Copy)]
+struct Given {
+    bcd: bool,
+    sensor: bool,
+    u_ab: bool,
+    end_up: bool,
+    end_down: bool,
+}
+
+impl Given {
+    fn by(columns: &[Column]) -> Given {
+        let given = |column: Column| columns.contains(&column);
+        Given {
+            bcd: given(Column::Bcd),
+            sensor: given(Column::Sensor),
+            u_ab: given(Column::Reading(U_AB)),
+            end_up: given(Column::Contact(END_UP)),
+            end_down: given(Column::Contact(END_DOWN)),
         }
     }
 }
@@ -84,29 +144,19 @@ pub struct Player<'a> {
     scenario: &'a Scenario,
     row: usize,
     drive: Option<Simulated>,
-    bcd_given: bool,
-    sensor_given: bool,
-    u_ab_given: bool,
+    given: Given,
 }
 
 impl<'a> Player<'a> {
     /// The rows alone.
     pub fn new(scenario: &'a Scenario) -> Player<'a> {
-        let given = |column: Column| scenario.columns.contains(&column);
-        Player {
-            scenario,
-            row: 0,
-            drive: None,
-            bcd_given: given(Column::Bcd),
-            sensor_given: given(Column::Sensor),
-            u_ab_given: given(Column::Reading(U_AB)),
-        }
+        Player { scenario, row: 0, drive: None, given: Given::by(&scenario.columns) }
     }
 
     /// The rows with their drive, if they have one, for a unit with the sheet `list`.
     pub fn with_drive(scenario: &'a Scenario, list: &[u32]) -> Player<'a> {
         let first = &scenario.rows[0].standing.nature;
-        let drive = scenario.has_drive().then(|| Simulated::new(list, first.tap));
+        let drive = scenario.has_drive().then(|| Simulated::new(list, first));
         Player { drive, ..Player::new(scenario) }
     }
 
@@ -121,30 +171,9 @@ impl<'a> Player<'a> {
             None => brought,
             Some(drive) => {
                 let shown = drive.tick(&standing.nature, seen(before, &brought));
-                self.answer(brought, &standing.nature, &shown)
+                drive.answer(brought, self.given, &standing.nature, &shown)
             }
         }
-    }
-
-    /// What the drive adds to the row: its contacts, its tap and the tap's voltage.
-    fn answer(&self, mut brought: Brought, nature: &Nature, shown: &Shown) -> Brought {
-        brought.contacts = with(brought.contacts, SWITCHING, shown.switching);
-        if shown.supply_off {
-            brought.contacts = with(brought.contacts, SUPPLY_OFF, true);
-        }
-        if !self.bcd_given {
-            brought.bcd = lines_of(shown.tap);
-        }
-        if !self.sensor_given {
-            brought.sensor = shown.tap;
-        }
-        let volts = (f64::from(shown.tap) - f64::from(nature.tap)) * nature.step;
-        if self.u_ab_given {
-            brought.readings[U_AB] = shifted(brought.readings[U_AB], volts);
-        }
-        let pair = columns::pair(&brought, U_AB_PAIR);
-        columns::put_pair(&mut brought, U_AB_PAIR, phasor::lengthened(pair, volts));
-        brought
     }
 }
 

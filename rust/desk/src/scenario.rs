@@ -1,7 +1,8 @@
 //! Scenarios: rows of a CSV file, each standing until the next one.
 
 use crate::cells;
-use crate::columns::{self, Column, Setting, Standing};
+use crate::columns::{self, Column, Standing};
+use crate::ends;
 use crate::file::{Errors, File};
 use crate::shown;
 
@@ -123,11 +124,12 @@ impl Reader {
             if cell.is_empty() {
                 continue;
             }
-            if before.is_some() && *column == Column::Drive(Setting::Tap) {
-                return Err("`drive_tap` is the tap at the start, and may stand in the first row only".to_string());
+            if let Some(what) = columns::of_start(*column).filter(|_| before.is_some()) {
+                return Err(format!("`{}` is {what}, and may stand in the first row only", columns::name(*column)));
             }
             columns::put(&mut standing, *column, cell).map_err(|words| format!("{}: {words}", columns::name(*column)))?;
         }
+        ends::in_order(&standing.nature)?;
         Ok(Row { after, standing })
     }
 

@@ -7,52 +7,98 @@ use crate::inputs::{I_BUS_PAIR, I_COUPLER_PAIR, U_AB_PAIR};
 use crate::names::{
     self, ABSENT, COMPENSATION, COMPENSATION_CURRENT, CONTINUOUS, D_U, MODULE, N_L, N_POS, N_R, TABLE, TAP_SOURCE,
 };
+use crate::shown::{self, counted};
 use crate::unit::{self, Refusal, COUNTED, LENGTH, RANGE, TAP_ORDER};
 use crate::value;
 
 /// Bytes of a whole SHEET.
 pub const BYTES: usize = 4 * SLOTS;
 
-/// A sheet that the library takes.
+/// The most errors of a sheet that are told.
+const MOST_ERRORS: usize = 20;
+
+/// Where a sheet's numbers come from.
+#[derive(Clone, Debug, PartialEq)]
+pub enum Origin {
+    /// Text, with the line of each setting that it names; the others have their defaults.
+    Text(Vec<Option<usize>>),
+    /// A SHEET, which holds them all.
+    Binary,
+}
+
+/// A list and where it comes from; to a reader outside, one that the library takes.
 #[derive(Clone, Debug, PartialEq)]
 pub struct Sheet {
     pub list: Vec<u32>,
-    /// How many slots the file names; the others have their defaults.
-    pub named: usize,
+    pub origin: Origin,
 }
 
-/// A list and the lines it comes from.
-struct Draft {
-    list: Vec<u32>,
-    lines: [Option<usize>; SLOTS],
+impl Sheet {
+    /// The line that gives a slot its number, if one does.
+    pub fn line(&self, slot: usize) -> Option<usize> {
+        match &self.origin {
+            Origin::Text(lines) => lines.get(slot).copied().flatten(),
+            Origin::Binary => None,
+        }
+    }
+
+    /// Whether a slot has its number because the text does not name it.
+    pub fn is_left_out(&self, slot: usize) -> bool {
+        self.origin != Origin::Binary && self.line(slot).is_none()
+    }
+
+    /// Words about a slot, with the line that gives it its number.
+    pub fn says(&self, file: &File, slot: usize, words: &str) -> String {
+        match self.line(slot) {
+            Some(line) => file.says_at(line, words),
+            None => file.says(words),
+        }
+    }
+
+    /// What the file gives, in words.
+    pub fn told(&self) -> String {
+        match &self.origin {
+            Origin::Text(lines) => {
+                let named = lines.iter().flatten().count();
+                format!("{} named, {} by default", counted(named, "setting"), SLOTS - named)
+            }
+            Origin::Binary => format!("a SHEET, with all {SLOTS} settings"),
+        }
+    }
 }
 
 /// Reads a sheet, as text or as a SHEET; a file with a zero byte is no text.
 pub fn read(file: &File) -> Result<Sheet, Errors> {
-    let draft = match file.bytes.contains(&0) {
-        true => from_bytes(file)?,
-        false => from_text(file)?,
+    let sheet = match file.bytes.contains(&0) {
+        true => from_bytes(file),
+        false => from_text(file),
     };
-    judge(file, &draft)?;
-    let named = draft.lines.iter().flatten().count();
-    Ok(Sheet { list: draft.list, named })
+    sheet.and_then(|sheet| judged(file, sheet)).map_err(|errors| first_of(file, errors))
 }
 
 /// Reads a SHEET.
 pub fn read_binary(file: &File) -> Result<Sheet, Errors> {
-    let draft = from_bytes(file)?;
-    judge(file, &draft)?;
-    Ok(Sheet { list: draft.list, named: SLOTS })
+    from_bytes(file).and_then(|sheet| judged(file, sheet)).map_err(|errors| first_of(file, errors))
+}
+
+/// The first errors, and how many more there are.
+fn first_of(file: &File, mut errors: Errors) -> Errors {
+    let more = errors.len().saturating_sub(MOST_ERRORS);
+    if more > 0 {
+        errors.truncate(MOST_ERRORS);
+        errors.push(file.says(&format!("and {more} more")));
+    }
+    errors
 }
 
 /// A SHEET of another length is a list of another length; the library has the word.
-fn from_bytes(file: &File) -> Result<Draft, Errors> {
+fn from_bytes(file: &File) -> Result<Sheet, Errors> {
     if !file.bytes.len().is_multiple_of(4) {
         let length = file.bytes.len();
         return Err(vec![file.says(&format!("{length} bytes are no list of 32-bit numbers; a SHEET has {BYTES}"))]);
     }
     let list = file.bytes.chunks_exact(4).map(|b| u32::from_le_bytes([b[0], b[1], b[2], b[3]])).collect();
-    Ok(Draft { list, lines: [None; SLOTS] })
+    Ok(Sheet { list, origin: Origin::Binary })
 }
 
 /// The SHEET of a list.
@@ -60,7 +106,7 @@ pub fn to_bytes(list: &[u32]) -> Vec<u8> {
     list.iter().flat_map(|number| number.to_le_bytes()).collect()
 }
 
-fn from_text(file: &File) -> Result<Draft, Errors> {
+fn from_text(file: &File) -> Result<Sheet, Errors> {
     let mut texts: [Option<(usize, String)>; SLOTS] = std::array::from_fn(|_| None);
     let mut errors = Errors::new();
     for (line, text) in file.lines()? {
@@ -69,14 +115,17 @@ fn from_text(file: &File) -> Result<Draft, Errors> {
         }
     }
     if errors.is_empty() && texts.iter().all(Option::is_none) {
-        return Err(vec![file.says("no setting is named in it")]);
+        return Err(vec![file.says(NO_SETTING)]);
     }
-    let draft = draft(file, &texts, &mut errors);
+    let sheet = numbers(file, &texts, &mut errors);
     match errors.is_empty() {
-        true => Ok(draft),
+        true => Ok(sheet),
         false => Err(errors),
     }
 }
+
+/// What is told of a text without a setting.
+const NO_SETTING: &str = "no setting is named in it: begin with what `avr sheet template` prints, or with one line, `XB1 = on`";
 
 /// Notes the value of one line: its slot, its line and its text.
 fn take_line(texts: &mut [Option<(usize, String)>; SLOTS], line: usize, text: &str) -> Result<(), String> {
@@ -84,7 +133,7 @@ fn take_line(texts: &mut [Option<(usize, String)>; SLOTS], line: usize, text: &s
     if text.is_empty() {
         return Ok(());
     }
-    let (name, value) = text.split_once('=').ok_or_else(|| format!("`{text}` is not `name = value`"))?;
+    let (name, value) = text.split_once('=').ok_or_else(|| format!("`{}` is not `name = value`", shown::text(text)))?;
     let (name, value) = (name.trim(), value.trim());
     let slot = names::find(name).ok_or_else(|| unknown(name))?;
     if value.is_empty() {
@@ -101,19 +150,17 @@ fn unknown(name: &str) -> String {
     if let Some((_, why)) = ABSENT.iter().find(|(absent, _)| *absent == name) {
         return format!("{name} is no setting of this unit: {why}");
     }
-    match names::near(name) {
-        Some(near) => format!("no setting is called `{name}`; {near} is one"),
-        None => format!("no setting is called `{name}`"),
-    }
+    let near = names::near(name).map(|near| format!("; {near} is one")).unwrap_or_default();
+    format!("no setting is called `{}`{near}", shown::text(name))
 }
 
 /// The numbers of the texts. The module comes first: defaults and ranges of currents and impedances hang on it.
-fn draft(file: &File, texts: &[Option<(usize, String)>; SLOTS], errors: &mut Errors) -> Draft {
+fn numbers(file: &File, texts: &[Option<(usize, String)>; SLOTS], errors: &mut Errors) -> Sheet {
     let module = match &texts[MODULE] {
         Some((_, text)) => value::number(&TABLE[MODULE], text).unwrap_or(0),
         None => TABLE[MODULE].default,
     };
-    let mut lines = [None; SLOTS];
+    let mut lines = vec![None; SLOTS];
     let mut list = Vec::with_capacity(SLOTS);
     for (at, slot) in TABLE.iter().enumerate() {
         let Some((line, text)) = &texts[at] else {
@@ -122,27 +169,20 @@ fn draft(file: &File, texts: &[Option<(usize, String)>; SLOTS], errors: &mut Err
         };
         lines[at] = Some(*line);
         list.push(value::number(slot, text).unwrap_or_else(|why| {
-            let takes = value::range(slot, module);
+            let (text, takes) = (shown::text(text), value::range(slot, module));
             errors.push(file.says_at(*line, &format!("{} = {text}: {why}; it {takes} (slot {at})", slot.name)));
             0
         }));
     }
-    Draft { list, lines }
+    Sheet { list, origin: Origin::Text(lines) }
 }
 
-fn judge(file: &File, draft: &Draft) -> Result<(), Errors> {
-    let errors: Errors = refusals(&draft.list)
-        .into_iter()
-        .map(|refusal| {
-            let words = explain(&draft.list, refusal);
-            match draft.lines.get(refusal.slot as usize).copied().flatten() {
-                Some(line) => file.says_at(line, &words),
-                None => file.says(&words),
-            }
-        })
-        .collect();
+/// The sheet, if the library takes it.
+fn judged(file: &File, sheet: Sheet) -> Result<Sheet, Errors> {
+    let told = |refusal: Refusal| sheet.says(file, refusal.slot as usize, &explain(&sheet.list, refusal));
+    let errors: Errors = refusals(&sheet.list).into_iter().map(told).collect();
     match errors.is_empty() {
-        true => Ok(()),
+        true => Ok(sheet),
         false => Err(errors),
     }
 }
@@ -184,7 +224,7 @@ pub fn explain(list: &[u32], refusal: Refusal) -> String {
     let at = slot as usize;
     let (name, value) = (TABLE[at].name, value::text(&TABLE[at], list[at]));
     if number == COUNTED {
-        return format!("{name} = {value}: {} {tail}", counted(list));
+        return format!("{name} = {value}: {} {tail}", nothing_to_count(list));
     }
     let takes = value::range(&TABLE[at], list[MODULE]);
     let must = match (number, at) {
@@ -196,7 +236,7 @@ pub fn explain(list: &[u32], refusal: Refusal) -> String {
 }
 
 /// Why a tap is not counted without a switching contact, and what to do.
-fn counted(list: &[u32]) -> String {
+fn nothing_to_count(list: &[u32]) -> String {
     let source = value::text(&TABLE[TAP_SOURCE], list[TAP_SOURCE]);
     format!("no contact tells of a move, so XB6 = {source} has nothing to count; choose XB6 off, BCD or sensor, or XB2 impulse")
 }
@@ -205,6 +245,14 @@ fn counted(list: &[u32]) -> String {
 pub fn is_continuous(list: &[u32]) -> bool {
     list[CONTINUOUS] == 1
 }
+
+/// Whether a raise goes to the lower number of a tap: rules 7 and 8.
+pub fn is_reversed(list: &[u32]) -> bool {
+    list[TAP_SOURCE] == COUNTED_REVERSED
+}
+
+/// The tap's source of a drive whose raise goes to the lower number.
+const COUNTED_REVERSED: u32 = 4;
 
 /// The compensations that a sheet may choose, but for none.
 pub const BY_U_COMP: u32 = 1;

@@ -2,6 +2,7 @@
 
 use crate::decimal;
 use crate::names::{rated_amps, Kind, Module, Slot};
+use crate::shown;
 
 /// A tick in ms.
 pub const TICK_MS: u64 = 5;
@@ -51,7 +52,7 @@ fn word(words: &[&str], number: u32) -> String {
 /// The slot's number from text, or why it is none.
 pub fn number(slot: &Slot, text: &str) -> Result<u32, String> {
     if let Some(raw) = text.strip_prefix("raw ") {
-        return raw.trim().parse().map_err(|_| format!("`{raw}` is no number of 32 bits"));
+        return raw.trim().parse().map_err(|_| format!("`{}` is no number of 32 bits", shown::text(raw)));
     }
     match slot.kind {
         Kind::Words(words) => from_words(words, text),
@@ -92,7 +93,7 @@ fn from_measure(measures: &[Measure], text: &str) -> Result<u32, String> {
     let known = measures.iter().find(|m| unit.is_empty() || m.unit == unit);
     let Some(measure) = known else {
         let units: Vec<&str> = measures.iter().map(|m| m.unit).collect();
-        return Err(format!("has the unit `{unit}`, and not {}", units.join(" or ")));
+        return Err(format!("has the unit `{}`, and not {}", shown::text(unit), units.join(" or ")));
     };
     let thousandths = decimal::thousandths(digits).map_err(|bad| bad.words().to_string())?;
     match thousandths % measure.thousandths {
@@ -111,20 +112,30 @@ fn fit(number: u64) -> Result<u32, String> {
     u32::try_from(number).map_err(|_| "is too large".to_string())
 }
 
-/// What a slot takes, in words, for the module of the sheet.
+/// What a slot takes, in words, for the module of the sheet; where that counts, with the other module too.
 pub fn range(slot: &Slot, module: u32) -> String {
-    let (low, high) = slot.bounds(module);
     let takes = match slot.kind {
-        Kind::Words(words) => format!("takes {}", words.join(" or ")),
-        _ => format!("takes {} to {} in steps of {}", text(slot, low), text(slot, high), step(slot)),
+        Kind::Words(words) => return format!("takes {}", words.join(" or ")),
+        _ => format!("takes {} in steps of {}", span(slot, module), step(slot)),
     };
+    let other = u32::from(module != 1);
+    let with = |module: u32| format!("with I_nom = {} A", rated_amps(module));
     match slot.module {
         Module::Same => takes,
-        Module::Times | Module::Over => format!("{takes} with I_nom = {} A", rated_amps(module)),
+        Module::Times | Module::Over => format!("{takes} {}, and {} {}", with(module), span(slot, other), with(other)),
     }
 }
 
-fn step(slot: &Slot) -> String {
+/// From low to high, for a module.
+pub fn span(slot: &Slot, module: u32) -> String {
+    let (low, high) = slot.bounds(module);
+    match slot.kind {
+        Kind::TapOrEmpty => format!("{}, or 1 to {high}", text(slot, low)),
+        _ => format!("{} to {}", text(slot, low), text(slot, high)),
+    }
+}
+
+pub fn step(slot: &Slot) -> String {
     match slot.kind {
         Kind::TapOrEmpty => slot.step.to_string(),
         _ => text(slot, slot.step),

@@ -27,6 +27,14 @@ impl Words {
         self.option(name).unwrap_or_default()
     }
 
+    /// What the word of an option means, of those that it takes; the first one where it is not given.
+    pub fn choice<T: Copy>(&self, name: &str, known: &[(&str, T)]) -> Result<T, String> {
+        let Some(word) = self.option(name) else { return Ok(known[0].1) };
+        let words: Vec<&str> = known.iter().map(|(known, _)| *known).collect();
+        let found = known.iter().find(|(known, _)| *known == word).map(|(_, meant)| *meant);
+        found.ok_or_else(|| format!("--{name} takes {}, and not `{}`", words.join(" or "), shown::text(word)))
+    }
+
     fn take_option(&mut self, takes: &Takes, name: &str, value: Option<String>) -> Result<(), String> {
         if !takes.options.contains(&name) {
             return Err(format!("no option is called --{}", shown::text(name)));

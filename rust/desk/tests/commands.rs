@@ -14,7 +14,7 @@ use library::SLOTS;
 
 const SCENARIO: &str = "seconds,U_AB,breaker,automatic\n0,98,1,1\n1,100\n2,end\n";
 const DRIVEN: &str = "seconds,U_AB,breaker,automatic,drive\n0,98,1,1,ok\n2,end\n";
-const SHEET: &str = "XB1 = on\nT1 = 0.5 s\nXB6 = counted\n";
+const SHEET: &str = "XB1 = on\nT1 = 0.5 s\nT3 = 0.5 s\nXB6 = counted\n";
 
 #[test]
 fn help_is_there_for_each_subcommand() {
@@ -24,6 +24,8 @@ fn help_is_there_for_each_subcommand() {
         vec!["sheet", "--help"],
         vec!["sheet", "check", "--help"],
         vec!["sheet", "show", "-h"],
+        vec!["sheet", "template", "--help"],
+        vec!["sheet", "diff", "--help"],
         vec!["scenario", "--help"],
         vec!["scenario", "write", "--help"],
         vec!["scenario", "show", "--help"],
@@ -43,6 +45,19 @@ fn help_tells_of_a_drive_without_a_contact() {
     }
     for words in ["With XB2 = continuous in the sheet the drive has no switching contact", "up a tap that is not done"] {
         assert!(out(&avr(&["scenario", "write", "--help"])).contains(words), "{words}");
+    }
+}
+
+#[test]
+fn help_tells_of_advice_and_of_the_drives_ends() {
+    assert!(out(&avr(&["sheet", "check", "--help"])).contains("A line `advice` tells of settings that are taken"));
+    let write = out(&avr(&["scenario", "write", "--help"]));
+    for words in [
+        "the tap at the start (the sheet's N_pos)",
+        "drive_lowest    and drive_highest, the taps at its ends",
+        "closes end_up at",
+    ] {
+        assert!(write.contains(words), "{words}");
     }
 }
 
@@ -82,11 +97,8 @@ fn help_and_readme_name_the_limits_and_ranges() {
     assert!(readme.replace(',', "").contains(&longest.replace(',', "")));
     assert!(readme.contains(&format!("A sheet has at most {SHEET_MOST} MiB and a scenario {SCENARIO_MOST} MiB.")));
     let (volts, amps) = (most(0, 1), [1, 5].map(|rated| most(3, rated)));
-    let ranges = format!(
-        "above {volts} V\n                  or 40 times I_nom: {} A with I_nom = 1 A, {} A with 5 A.",
-        amps[0], amps[1]
-    );
-    assert!(write.contains(&ranges), "{write}");
+    let ranges = format!("above {volts} V or 40 times I_nom: {} A with I_nom = 1 A, {} A with 5 A.", amps[0], amps[1]);
+    assert!(write.split_whitespace().collect::<Vec<_>>().join(" ").contains(&ranges), "{write}");
 }
 
 #[test]
@@ -105,6 +117,49 @@ fn help_names_every_contact_and_tells_which_buttons_act() {
 }
 
 #[test]
+fn a_group_names_its_subcommands() {
+    let sheet = "sheet check, sheet show, sheet template, or sheet diff?\n";
+    assert!(err(&avr(&["sheet"])).starts_with(&format!("avr: {sheet}")));
+    assert!(err(&avr(&["sheet", "fly"])).starts_with(&format!("avr: no subcommand is called `sheet fly`: {sheet}")));
+    assert!(err(&avr(&["scenario"])).starts_with("avr: scenario write, or scenario show?\n"));
+    for help in [out(&avr(&["--help"])), out(&avr(&["sheet", "--help"]))] {
+        assert!(help.contains("avr sheet template [-o FILE] [--module 5]\n       avr sheet diff A B\n"), "{help}");
+    }
+}
+
+#[test]
+fn a_template_is_printed_or_written_for_a_module() {
+    let folder = Folder::new("template");
+    let target = folder.path("a.txt");
+    assert!(out(&avr(&["sheet", "template"])).contains("\nI_nom      = 1 A "));
+    for module in ["5", "5 A"] {
+        let output = avr(&["sheet", "template", "--module", module, "-o", &target]);
+        assert_eq!((err(&output), output.status.code()), (format!("avr: the template is in {target}\n"), Some(0)));
+        assert_eq!(fs::read_to_string(&target).expect("a template"), out(&avr(&["sheet", "template", "--module=5"])));
+        assert_eq!(avr(&["sheet", "check", &target]).status.code(), Some(0));
+    }
+    let output = avr(&["sheet", "template", "--module", "7\u{1b}"]);
+    let told = "avr: --module takes 1 or 5 or 1 A or 5 A, and not `7\\u{1b}`\n";
+    assert!(err(&output).starts_with(told), "{}", err(&output));
+    assert_eq!(output.status.code(), Some(2));
+}
+
+#[test]
+fn sheets_of_either_kind_are_held_to_each_other() {
+    let folder = Folder::new("diff");
+    let (text, other, binary) =
+        (folder.write("a", SHEET), folder.write("b", "XB1 = on\nT1 = 0.5 s\nT3 = 0.5 s\n"), folder.path("c"));
+    avr(&["sheet", "check", &text, "-o", &binary]);
+    let same = avr(&["sheet", "diff", &text, &binary]);
+    assert_eq!((out(&same).as_str(), same.status.code()), ("no setting differs\n", Some(0)));
+    let differ = avr(&["sheet", "diff", &binary, &other]);
+    let told = "XB6  counted  -> off  where the tap is read\n1 setting differs\n";
+    assert_eq!((out(&differ).as_str(), differ.status.code()), (told, Some(0)));
+    let bad = avr(&["sheet", "diff", &folder.path("none"), &folder.write("d", "T1 = 0\n")]);
+    assert_eq!((err(&bad).lines().count(), bad.status.code()), (2, Some(1)), "{}", err(&bad));
+}
+
+#[test]
 fn a_wrong_command_line_is_status_2() {
     for words in [
         vec![],
@@ -117,6 +172,9 @@ fn a_wrong_command_line_is_status_2() {
         vec!["sheet", "check", "a", "-o"],
         vec!["sheet", "check", "a", "-x"],
         vec!["sheet", "check", "a", "-o", "b", "-o", "c"],
+        vec!["sheet", "template", "a"],
+        vec!["sheet", "template", "--module", "6"],
+        vec!["sheet", "diff", "a"],
         vec!["scenario", "write", "a"],
         vec!["run"],
         vec!["run", "--sheet", "a"],
@@ -136,9 +194,10 @@ fn a_sheet_is_checked_written_and_shown() {
     let (text, binary) = (folder.write("a.txt", SHEET), folder.path("a.sheet"));
     let output = avr(&["sheet", "check", &text, "-o", &binary]);
     assert_eq!(output.status.code(), Some(0), "{}", err(&output));
-    assert_eq!(out(&output), format!("{text}: taken; 3 settings named, {} by default\n", SLOTS - 3));
+    assert_eq!(out(&output), format!("{text}: taken; 4 settings named, {} by default\n", SLOTS - 4));
     assert_eq!(err(&output), format!("avr: the SHEET is in {binary}\n"));
     assert_eq!(fs::read(&binary).expect("a SHEET").len(), sheet::BYTES);
+    assert_eq!(out(&avr(&["sheet", "check", &binary])), format!("{binary}: taken; a SHEET, with all {SLOTS} settings\n"));
     let shown = avr(&["sheet", "show", &binary]);
     assert!(out(&shown).contains("\nT1 = 0.5 s "));
     let (again, second) = (folder.write("b.txt", out(&shown)), folder.path("b.sheet"));
@@ -189,7 +248,8 @@ fn a_compensation_and_a_resistance_out_of_range_are_told() {
     let output = avr(&["sheet", "check", &text, "-o", &folder.path("a.sheet")]);
     let told = format!(
         "avr: {text}:2: XB4 = raw 3: it takes off or U_comp or RX (refusal 2, slot 3)\n\
-         avr: {text}:3: R_set = 400 ohm: it takes 0 ohm to 80 ohm in steps of 0.001 ohm with I_nom = 5 A (refusal 2, slot 64)\n"
+         avr: {text}:3: R_set = 400 ohm: it takes 0 ohm to 80 ohm in steps of 0.001 ohm with I_nom = 5 A, \
+         and 0 ohm to 400 ohm with I_nom = 1 A (refusal 2, slot 64)\n"
     );
     assert_eq!((output.status.code(), out(&output).as_str(), err(&output)), (Some(1), "", told));
     assert_eq!(folder.names(), ["a.txt"]);
@@ -265,6 +325,27 @@ fn a_scenario_with_a_drive_needs_a_sheet() {
     let output = avr(&["scenario", "write", &csv, "-o", &recording, "--sheet", &sheet]);
     assert_eq!(output.status.code(), Some(0), "{}", err(&output));
     assert_eq!(fs::read(&recording).expect("a RECORDING").len(), 400 * recording::BYTES);
+}
+
+#[test]
+fn a_drive_whose_taps_do_not_go_with_the_sheet_is_told() {
+    let folder = Folder::new("ends");
+    let sheet = folder.write("a.txt", "XB1 = on\nN_L = 3\nN_pos = 9\nN_R = 17\n");
+    for (column, cell, told) in [
+        ("drive_lowest", 17, "drive_lowest, 17, is not below the sheet's N_R = 17: give drive_highest too"),
+        ("drive_highest", 3, "drive_highest, 3, is not above the sheet's N_L = 3: give drive_lowest too"),
+        ("drive_lowest", 10, "the drive begins at the sheet's N_pos = 9, outside its taps 10 to 17: give drive_tap"),
+    ] {
+        let csv = folder.write("a.csv", format!("seconds,drive,{column}\n0,ok,{cell}\n1,end\n"));
+        for words in [
+            vec!["run", "--sheet", &sheet, "--scenario", &csv],
+            vec!["scenario", "write", &csv, "--sheet", &sheet, "-o", &folder.path("a.rec")],
+        ] {
+            let output = avr(&words);
+            assert_eq!((err(&output), output.status.code()), (format!("avr: {csv}: {told}\n"), Some(1)));
+        }
+    }
+    assert_eq!(folder.names(), ["a.csv", "a.txt"]);
 }
 
 /// The lines of a table that are the unit's, with the time and tick they stand under.

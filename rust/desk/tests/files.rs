@@ -258,6 +258,9 @@ fn bad_text_is_cut_and_escaped() {
     let desk = Desk::new("text");
     let long = "7".repeat(300_000);
     for (name, text, words) in [
+        ("s", format!("XB1 = \u{1b}[31m{long}\n"), vec!["sheet", "check"]),
+        ("s", format!("{long}\u{7}\n"), vec!["sheet", "check"]),
+        ("s", format!("XB\u{1b}1 = on\nT1 = {long} s\n"), vec!["sheet", "check"]),
         ("c", format!("seconds,\u{1b}[2J{long}\n"), vec!["scenario", "write", "-o", "x"]),
         ("c", format!("seconds,U_AB\n0,\u{1b}{long}x\n{long},1\n"), vec!["scenario", "write", "-o", "x"]),
         ("c", format!("\u{1b}{long},U_AB\n"), vec!["scenario", "write", "-o", "x"]),

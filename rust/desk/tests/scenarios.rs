@@ -174,7 +174,7 @@ fn a_tick_has_its_bytes_in_the_order_of_the_format() {
 }
 
 /// A scenario, HEAD standing for a header, and what is told of it.
-const BAD_SCENARIOS: [(&str, &str); 39] = [
+const BAD_SCENARIOS: [(&str, &str); 44] = [
     ("", "file: no row is in it: its first row names the columns"),
     ("# nothing\n", "file: no row is in it: its first row names the columns"),
     ("time,U_AB\n0,1\n1,end", "file:1: the first column must be `seconds` or `ticks`, and not `time`"),
@@ -231,6 +231,17 @@ const BAD_SCENARIOS: [(&str, &str); 39] = [
         "seconds,drive,drive_tap\n0,ok,8\n1,,9\n2,end",
         "file:3: `drive_tap` is the tap at the start, and may stand in the first row only",
     ),
+    (
+        "seconds,drive,drive_lowest\n0,ok,8\n1,,9\n2,end",
+        "file:3: `drive_lowest` is the drive's lowest tap, and may stand in the first row only",
+    ),
+    (
+        "seconds,drive,drive_highest\n0,ok\n1,,9\n2,end",
+        "file:3: `drive_highest` is the drive's highest tap, and may stand in the first row only",
+    ),
+    ("seconds,drive,drive_lowest,drive_highest\n0,ok,9,9\n2,end", "file:2: drive_lowest: 9 is not below drive_highest, 9"),
+    ("seconds,drive,drive_lowest\n0,ok,0\n2,end", "file:2: drive_lowest: `0` is no tap of a drive: 1 to 79"),
+    ("seconds,drive_highest\n0,9\n2,end", "file:1: the column `drive_highest` needs a column `drive`"),
     ("seconds,drive,drive_step\n0,ok,999\n1,end", "file:2: drive_step: `999` is no voltage from -200 to 200 V"),
 ];
 

@@ -3,8 +3,10 @@
 mod common;
 
 use common::{bytes, defaults, file, Dice};
-use desk::names::{Kind, ABSENT, CONTINUOUS, MODULE, N_L, N_POS, N_R, TABLE, TAP_SOURCE};
+use desk::diff::diff;
+use desk::names::{rated_amps, Kind, ABSENT, CONTINUOUS, MODULE, N_L, N_POS, N_R, TABLE, TAP_SOURCE};
 use desk::sheet::{self, explain, refusals};
+use desk::template::{template, MODULES};
 use desk::unit::{start, Refusal};
 use desk::{decimal, value};
 use library::SLOTS;
@@ -210,7 +212,7 @@ fn sheets_go_to_text_and_back() {
     for _ in 0..300 {
         let list = chance(&mut dice);
         let read = sheet::read(&file(&sheet::to_text(&list))).expect("its own text");
-        assert_eq!((read.list, read.named), (list.clone(), SLOTS));
+        assert_eq!((read.told(), read.list), (format!("{SLOTS} settings named, 0 by default"), list.clone()));
         let binary = bytes(sheet::to_bytes(&list));
         assert_eq!(binary.bytes.len(), sheet::BYTES);
         assert_eq!(sheet::read_binary(&binary).expect("its own bytes").list, list);
@@ -281,6 +283,7 @@ fn every_slot_out_of_range_is_told_by_name_value_range_step_number_and_slot() {
         assert!(told.ends_with(&format!("(refusal 2, slot {at})")), "{told}");
         match slot.kind {
             Kind::Words(words) => assert!(told.contains(&words.join(" or ")), "{told}"),
+            Kind::TapOrEmpty => assert!(told.contains("it takes empty, or 1 to 40 in steps of 1 "), "{told}"),
             _ => {
                 let (low, high) = (value::text(slot, slot.low), value::text(slot, slot.high));
                 assert!(told.contains(&format!("{low} to {high} in steps of ")), "{told}");
@@ -305,7 +308,8 @@ fn a_refusal_reads_well() {
     );
     assert_eq!(
         one_problem("I_nom = 5 A\nI_set3 = 0.1 A"),
-        "file:2: I_set3 = 0.1 A: it takes 0.25 A to 25 A in steps of 0.001 A with I_nom = 5 A (refusal 2, slot 27)"
+        "file:2: I_set3 = 0.1 A: it takes 0.25 A to 25 A in steps of 0.001 A with I_nom = 5 A, \
+         and 0.05 A to 5 A with I_nom = 1 A (refusal 2, slot 27)"
     );
     assert_eq!(one_problem("XB4 = raw 3"), "file:1: XB4 = raw 3: it takes off or U_comp or RX (refusal 2, slot 3)");
 }
@@ -314,15 +318,23 @@ fn a_refusal_reads_well() {
 fn a_range_that_goes_by_the_module_says_so() {
     assert_eq!(
         one_problem("I_nom = 5 A\nR_set = 80.001 ohm"),
-        "file:2: R_set = 80.001 ohm: it takes 0 ohm to 80 ohm in steps of 0.001 ohm with I_nom = 5 A (refusal 2, slot 64)"
+        "file:2: R_set = 80.001 ohm: it takes 0 ohm to 80 ohm in steps of 0.001 ohm with I_nom = 5 A, \
+         and 0 ohm to 400 ohm with I_nom = 1 A (refusal 2, slot 64)"
     );
     assert_eq!(
         one_problem("X_set = 401"),
-        "file:1: X_set = 401 ohm: it takes 0 ohm to 400 ohm in steps of 0.001 ohm with I_nom = 1 A (refusal 2, slot 65)"
+        "file:1: X_set = 401 ohm: it takes 0 ohm to 400 ohm in steps of 0.001 ohm with I_nom = 1 A, \
+         and 0 ohm to 80 ohm with I_nom = 5 A (refusal 2, slot 65)"
+    );
+    assert_eq!(
+        one_problem("I_set1 = 50 A"),
+        "file:1: I_set1 = 50 A: it takes 0.1 A to 40 A in steps of 0.001 A with I_nom = 1 A, \
+         and 0.5 A to 200 A with I_nom = 5 A (refusal 2, slot 25)"
     );
     let told = problems("I_nom = raw 7\nX_set = 401");
     assert_eq!(told.len(), 2, "{told:?}");
-    assert!(told[1].contains("takes 0 ohm to 400 ohm in steps of 0.001 ohm with I_nom = 1 A"), "{told:?}");
+    let takes = "takes 0 ohm to 400 ohm in steps of 0.001 ohm with I_nom = 1 A, and 0 ohm to 80 ohm with I_nom = 5 A";
+    assert!(told[1].contains(takes), "{told:?}");
     assert!(sheet::read(&file("I_nom = 5 A\nR_set = 80 ohm\nX_set = 80 ohm")).is_ok());
 }
 
@@ -439,8 +451,8 @@ fn bad_lines_are_told_with_their_line() {
         ("T1 = 0.101", "file:1: T1 = 0.101: is finer than a sheet can hold; it takes 0.1 s to 180 s in steps of 0.005 s (slot 33)"),
         ("T1 = 0.1001", "file:1: T1 = 0.1001: has more than three decimals; it takes 0.1 s to 180 s in steps of 0.005 s (slot 33)"),
         ("T1 = 99999999999", "file:1: T1 = 99999999999: is too large; it takes 0.1 s to 180 s in steps of 0.005 s (slot 33)"),
-        ("R_set = 4 kohm", "file:1: R_set = 4 kohm: has the unit `kohm`, and not ohm or mohm or Ω or mΩ; it takes 0 ohm to 400 ohm in steps of 0.001 ohm with I_nom = 1 A (slot 64)"),
-        ("R_set = 0.0005", "file:1: R_set = 0.0005: has more than three decimals; it takes 0 ohm to 400 ohm in steps of 0.001 ohm with I_nom = 1 A (slot 64)"),
+        ("R_set = 4 kohm", "file:1: R_set = 4 kohm: has the unit `kohm`, and not ohm or mohm or Ω or mΩ; it takes 0 ohm to 400 ohm in steps of 0.001 ohm with I_nom = 1 A, and 0 ohm to 80 ohm with I_nom = 5 A (slot 64)"),
+        ("R_set = 0.0005", "file:1: R_set = 0.0005: has more than three decimals; it takes 0 ohm to 400 ohm in steps of 0.001 ohm with I_nom = 1 A, and 0 ohm to 80 ohm with I_nom = 5 A (slot 64)"),
         ("x_set = 1", "file:1: no setting is called `x_set`; X_set is one"),
         ("inom_bus1 = 1", "file:1: no setting is called `inom_bus1`; Inom_bus1 is one"),
         ("Inom_ct1 = 5 mA", "file:1: Inom_ct1 = 5 mA: has the unit `mA`, and not A or kA; it takes 1 A to 20000 A in steps of 1 A (slot 66)"),
@@ -449,11 +461,106 @@ fn bad_lines_are_told_with_their_line() {
         ("N_R = 1.5", "file:1: N_R = 1.5: is not a whole number; it takes 1 to 40 in steps of 1 (slot 49)"),
         ("XB1 = 1", "file:1: XB1 = 1: is none of its words; it takes off or on (slot 0)"),
         ("T1 = raw x", "file:1: T1 = raw x: `x` is no number of 32 bits; it takes 0.1 s to 180 s in steps of 0.005 s (slot 33)"),
-        ("", "file: no setting is named in it"),
-        ("# nothing\n\n", "file: no setting is named in it"),
+        ("", "file: no setting is named in it: begin with what `avr sheet template` prints, or with one line, `XB1 = on`"),
+        ("# nothing\n\n", "file: no setting is named in it: begin with what `avr sheet template` prints, or with one line, `XB1 = on`"),
     ] {
         assert_eq!(one_problem(text), told);
     }
+}
+
+#[test]
+fn a_sheet_says_what_its_file_gives() {
+    for (text, named) in [("XB1 = on", "1 setting"), ("XB1 = on\nT1 = 5", "2 settings")] {
+        let read = sheet::read(&file(text)).expect("a sheet");
+        let left = SLOTS - text.lines().count();
+        assert_eq!(read.told(), format!("{named} named, {left} by default"));
+        assert_eq!((read.line(0), read.is_left_out(0)), (Some(1), false));
+        assert_eq!((read.line(SLOTS - 1), read.is_left_out(SLOTS - 1)), (None, true));
+    }
+    let binary = bytes(sheet::to_bytes(&defaults(0)));
+    for read in [sheet::read(&binary), sheet::read_binary(&binary)].map(|read| read.expect("a SHEET")) {
+        assert_eq!(read.told(), format!("a SHEET, with all {SLOTS} settings"));
+        assert_eq!((read.line(0), read.is_left_out(0)), (None, false));
+    }
+}
+
+#[test]
+fn at_most_20_errors_are_told() {
+    for (lines, told, last) in
+        [(20, 20, "file:20: no setting is called `T`"), (21, 21, "file: and 1 more"), (999, 21, "file: and 979 more")]
+    {
+        let problems = problems(&"T = 1\n".repeat(lines));
+        assert_eq!((problems.len(), problems[told - 1].as_str()), (told, last));
+    }
+    let mut list = vec![u32::MAX; SLOTS];
+    list[MODULE] = 0;
+    let told = sheet::read_binary(&bytes(sheet::to_bytes(&list))).expect_err("all out of range");
+    assert_eq!(told.last(), Some(&format!("file: and {} more", SLOTS - 1 - 20)));
+}
+
+/// What the file has is told in part only, and so that no terminal acts on it.
+#[test]
+fn text_of_the_file_is_cut_and_plain_in_errors() {
+    let long = format!("\u{1b}[2J\u{202e}{}", "x9".repeat(50_000));
+    for text in [
+        long.clone(),
+        format!("{long} = 1"),
+        format!("T1 = {long}"),
+        format!("T1 = 5{long}"),
+        format!("T1 = raw {long}"),
+        format!("N1 = {long}"),
+        format!("XB6 = {long}"),
+    ] {
+        let told = one_problem(&text);
+        assert!(told.len() < 600 && !told.contains(char::is_control) && !told.contains('\u{202e}'), "{told}");
+        assert!(told.contains(" more)"), "{told}");
+    }
+}
+
+#[test]
+fn the_template_is_a_sheet_of_defaults_for_its_module() {
+    for module in [0, 1] {
+        let text = template(module);
+        let read = sheet::read(&file(&text)).expect("a sheet");
+        assert_eq!((read.told(), read.list), (format!("{SLOTS} settings named, 0 by default"), defaults(module)));
+        let rows: Vec<&str> = text.lines().skip_while(|line| !line.starts_with("XB1")).collect();
+        let names: Vec<&str> = rows.iter().filter_map(|row| row.split_whitespace().next()).collect();
+        assert_eq!(names, TABLE.map(|slot| slot.name));
+        for (row, slot) in rows.iter().zip(&TABLE) {
+            assert!(row.ends_with(&format!("  {}", slot.meaning)), "{row}");
+            assert_eq!((row.find('='), row.find('#')), (rows[0].find('='), rows[0].find('#')), "{row}");
+        }
+    }
+}
+
+#[test]
+fn the_template_has_the_ranges_of_its_module() {
+    for (module, row) in [
+        (0, "I_set1     = 1 A      # 0.1 A to 40 A in steps of 0.001 A "),
+        (1, "I_set1     = 5 A      # 0.5 A to 200 A in steps of 0.001 A "),
+        (0, "X_set      = 0 ohm    # 0 ohm to 400 ohm in steps of 0.001 ohm "),
+        (1, "X_set      = 0 ohm    # 0 ohm to 80 ohm in steps of 0.001 ohm "),
+        (0, "I_nom      = 1 A      # 1 A, 5 A "),
+        (1, "I_nom      = 5 A      # 1 A, 5 A "),
+        (1, "N10        = empty    # empty, or 1 to 40 in steps of 1 "),
+    ] {
+        assert!(template(module).contains(&format!("\n{row}")), "{row}\n{}", template(module));
+    }
+    MODULES.iter().for_each(|(word, module)| assert_eq!(word.trim_end_matches(" A"), rated_amps(*module).to_string()));
+}
+
+#[test]
+fn a_difference_is_told_with_both_values_and_the_meaning() {
+    let (one, mut other) = (defaults(0), defaults(0));
+    assert_eq!(diff(&one, &other), "no setting differs\n");
+    (other[5], other[33]) = (4, 777);
+    let told = "XB6  off    -> counted-reversed  where the tap is read\n\
+                T1   120 s  -> 3.885 s           delay of the first automatic command\n\
+                2 settings differ\n";
+    assert_eq!(diff(&one, &other), told);
+    other[5] = 0;
+    let told = "T1  3.885 s  -> 120 s  delay of the first automatic command\n1 setting differs\n";
+    assert_eq!(diff(&other, &one), told);
 }
 
 #[test]

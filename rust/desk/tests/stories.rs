@@ -6,13 +6,14 @@ use std::fs;
 
 use common::{avr, between, check_texts, err, examples, out, Folder};
 
-const STORIES: [&str; 17] = [
+const STORIES: [&str; 18] = [
     "acceleration",
     "band-edge",
     "breaker-rating",
     "compensation",
     "continuous-in-band",
     "continuous-long",
+    "end-stop",
     "fast-move",
     "long-feeder",
     "long-move",
@@ -83,6 +84,7 @@ fn each_story_is_told() {
         ("long-move", vec!["out  FAULT: long move", "out  SUPPLY TRIP"]),
         ("fast-move", vec!["out  FAULT: fast move"]),
         ("sliding-tap", vec!["out  tap 10", "out  tap 11", "operations 2"]),
+        ("end-stop", vec![AT_THE_END, OFF_THE_END]),
         ("manual-keys", vec!["raise button pressed", "out  RAISE command", "out  LOWER command"]),
         ("press-in-a-move", vec![AGAIN, LATEST, RAISE_BLOCKED, MADE_AUTOMATIC]),
         ("panel-and-dispatcher", vec![PANEL_ACTS, DISPATCHER_ACTS, DISPATCHERS_LOWER, MADE_LOCAL]),
@@ -98,6 +100,23 @@ fn each_story_is_told() {
         told.iter().for_each(|words| assert!(table.contains(words), "{story}: {words}\n{table}"));
     }
 }
+
+/// The voltage stays low, and no command comes until it is high.
+const AT_THE_END: &str = "\
+                        in   upper end contact closed
+                        out  raise blocked
+                        out  drive at rest
+     27.005       5401  out  tap 17
+     45.005       9001  in   U_AB 102.4 V
+                        out  voltage no longer low
+                        out  voltage high
+     55.000      11000  out  LOWER command
+";
+
+const OFF_THE_END: &str = "\
+                        in   upper end contact open
+                        out  raise free
+";
 
 /// One command over all taps, which ends in band and counts on that tick.
 const IN_BAND: &str = "\

@@ -179,8 +179,8 @@ fn a_wrong_window_is_told() {
     assert_eq!(told(&["--from", "5", "--to", "5"]), (2, "avr: --from must be before --to".to_string()));
     assert_eq!(told(&["--from", "x"]), (2, "avr: --from: the time `x` is not a number".to_string()));
     assert_eq!(told(&["--from", "40"]), (1, "avr: --from 40 is not before the end of the run, 40 s".to_string()));
-    assert_eq!(told(&["--only", "faults"]), (2, "avr: --only takes all or inputs or outputs".to_string()));
-    assert_eq!(told(&["--format", "xml"]), (2, "avr: --format takes text or csv or json".to_string()));
+    assert_eq!(told(&["--only", "faults"]), (2, "avr: --only takes all or inputs or outputs, and not `faults`".to_string()));
+    assert_eq!(told(&["--format", "xml"]), (2, "avr: --format takes text or csv or json, and not `xml`".to_string()));
     assert_eq!(told(&["--to", "500", "--table", "/dev/null"]).0, 0, "a window may end after the run");
 }
 

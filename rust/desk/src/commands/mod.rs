@@ -5,6 +5,7 @@ pub mod scenario;
 pub mod sheet;
 
 use crate::columns::{self, Column};
+use crate::ends;
 use crate::file::{Errors, File, STANDARD};
 use crate::inputs::{Pair, PAIRS, READINGS, U_AB, U_AB_PAIR};
 use crate::names::{COMPENSATION_CURRENT, TABLE};
@@ -85,6 +86,11 @@ fn without_pair(pair: usize, sheet: &Sheet) -> String {
         "XB4 = RX with XB5 = {current} goes by {name} as a pair, which no column gives, so that it is 0: \
          add {phasor}, or {re} and {im}"
     )
+}
+
+/// Whether the scenario's drive goes with the sheet.
+fn check_drive(file: &File, scenario: &Scenario, sheet: &Sheet) -> Result<(), Errors> {
+    ends::check(&scenario.rows[0].standing.nature, &sheet.list).map_err(|words| vec![file.says(&words)])
 }
 
 fn started(sheet: &Sheet) -> Result<Unit, Errors> {

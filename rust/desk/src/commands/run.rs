@@ -1,6 +1,6 @@
 //! `avr run`.
 
-use super::{read_once, remarks, started, Failure, Said};
+use super::{check_drive, read_once, remarks, started, Failure, Said};
 use crate::cells;
 use crate::file::{Errors, File, SCENARIO_MOST, SHEET_MOST, STANDARD};
 use crate::picture::{self, View};
@@ -36,17 +36,9 @@ pub fn run(words: &Words) -> Result<Said, Failure> {
 
 /// What the table holds. In a table of a recording readings change on every tick, and are left out.
 fn wanted(words: &Words, readings: bool) -> Result<Wanted, Failure> {
-    let form = one_of(words, "format", &FORMS)?;
-    let only = one_of(words, "only", &SIDES)?;
+    let form = words.choice("format", &FORMS).map_err(Failure::Usage)?;
+    let only = words.choice("only", &SIDES).map_err(Failure::Usage)?;
     Ok(Wanted { form, only, readings, window: window(words)? })
-}
-
-/// The value that a word of an option names; the first one where it is not given.
-fn one_of<T: Copy>(words: &Words, option: &str, known: &[(&str, T)]) -> Result<T, Failure> {
-    let Some(word) = words.option(option) else { return Ok(known[0].1) };
-    let found = known.iter().find(|(name, _)| *name == word);
-    let names: Vec<&str> = known.iter().map(|(name, _)| *name).collect();
-    found.map(|(_, value)| *value).ok_or_else(|| Failure::Usage(format!("--{option} takes {}", names.join(" or "))))
 }
 
 fn window(words: &Words) -> Result<Window, Failure> {
@@ -99,6 +91,7 @@ fn tell(said: &mut Said, history: &History, sheet: &Sheet, wanted: Wanted, targe
 fn played(sheet: &Sheet, name: &str, window: Window, notes: &mut Vec<String>) -> Result<History, Errors> {
     let file = File::read(name, SCENARIO_MOST)?;
     let scenario = scenario::read(&file)?;
+    check_drive(&file, &scenario, sheet)?;
     notes.extend(remarks(&file, &scenario, sheet));
     looked_at(sheet, Source::Scenario(Player::with_drive(&scenario, &sheet.list)), window)
 }

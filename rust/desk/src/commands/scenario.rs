@@ -4,7 +4,7 @@ use std::io::{Cursor, Read};
 
 use library::FIELDS;
 
-use super::{read_once, remarks, started, Failure, Said};
+use super::{check_drive, read_once, remarks, started, Failure, Said};
 use crate::cells::LONGEST;
 use crate::file::{self, Errors, File, SCENARIO_MOST, SHEET_MOST, STANDARD};
 use crate::play::{Player, Source};
@@ -30,6 +30,7 @@ pub fn write_recording(words: &Words) -> Result<Said, Failure> {
     let mut said = Said::default();
     match &sheet {
         Some(sheet) => {
+            check_drive(&file, &scenario, sheet)?;
             said.notes = remarks(&file, &scenario, sheet);
             record(sheet, &scenario, &target)?;
         }
