@@ -43,7 +43,7 @@ A line `advice` tells of settings that are taken and hardly meant so: what is od
 no refusal, and the exit status is 0.
 With -o, --output: writes the binary SHEET, a number of 32 bits for each setting, least byte first.
 
-FILE is text: `name = value` a line, `#` begins a comment. The names are those of the manual's table of settings; one that is
+FILE is text: `name = value` a line, `#` begins a comment. The names are those of the maker's table of settings; one that is
 left out has its default. Values are in V, A, ohm and s, or words:
 
     XB1 = on            # in service

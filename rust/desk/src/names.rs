@@ -1,4 +1,4 @@
-//! The names, units, words, defaults and ranges of the slots, after the manual's table of settings (source document 002,
+//! The names, units, words, defaults and ranges of the slots, after the maker's table of settings (source document 002,
 //! table 2.2.1.2). The ranges only explain a refusal; whether a sheet is refused is the library's word. A test holds them to it.
 
 use library::SLOTS;
@@ -149,7 +149,7 @@ pub const TABLE: [Slot; SLOTS] = [
     rating("Inom_bus1", "primary rating of the breaker"),
 ];
 
-/// Names that the manual's table has and this unit has not, and other spellings.
+/// Names that the maker's table has and this unit has not, and other spellings.
 pub const ABSENT: [(&str, &str); 3] =
     [("XB19", "this unit takes 3U0 as it is brought"), ("dU", "write dU_set"), ("U_set9", "write U_set5")];
 
