@@ -15,6 +15,9 @@ pub const STANDARD: &str = "-";
 pub const SHEET_MOST: u64 = 1;
 pub const SCENARIO_MOST: u64 = 256;
 
+/// The most errors of a file that are told one by one.
+pub const MOST_ERRORS: usize = 20;
+
 /// A file that was read, under the name that a message has for it.
 pub struct File {
     pub name: String,
@@ -44,6 +47,18 @@ impl File {
     /// `file:line: words`.
     pub fn says_at(&self, line: usize, words: &str) -> String {
         format!("{}:{line}: {words}", self.name)
+    }
+
+    /// The first errors, and how many more there are.
+    pub fn first_of(&self, mut errors: Errors) -> Errors {
+        let more = errors.len().saturating_sub(MOST_ERRORS);
+        errors.truncate(MOST_ERRORS);
+        errors.extend(self.and_more(more));
+        errors
+    }
+
+    pub fn and_more(&self, errors: usize) -> Option<String> {
+        (errors > 0).then(|| self.says(&format!("and {errors} more")))
     }
 
     /// The lines of a text, numbered from 1.

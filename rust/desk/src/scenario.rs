@@ -3,7 +3,7 @@
 use crate::cells;
 use crate::columns::{self, Column, Standing};
 use crate::ends;
-use crate::file::{Errors, File};
+use crate::file::{Errors, File, MOST_ERRORS};
 use crate::shown;
 
 /// A row: what stands from the tick after `after` on.
@@ -36,9 +36,6 @@ struct Reader {
     ended: bool,
 }
 
-/// The most bad rows that are told one by one.
-const MOST_TOLD: usize = 20;
-
 pub fn read(file: &File) -> Result<Scenario, Errors> {
     let mut lines = file.lines()?.filter(|(_, text)| !is_idle(text));
     let (line, text) = lines.next().ok_or_else(|| vec![file.says("no row is in it: its first row names the columns")])?;
@@ -47,12 +44,10 @@ pub fn read(file: &File) -> Result<Scenario, Errors> {
     for (line, text) in lines {
         if let Err(words) = reader.take(text) {
             bad += 1;
-            errors.extend((bad <= MOST_TOLD).then(|| file.says_at(line, &words)));
+            errors.extend((bad <= MOST_ERRORS).then(|| file.says_at(line, &words)));
         }
     }
-    if bad > MOST_TOLD {
-        errors.push(file.says(&format!("{} more", shown::counted(bad - MOST_TOLD, "bad row"))));
-    }
+    errors.extend(file.and_more(bad.saturating_sub(MOST_ERRORS)));
     match (errors.is_empty(), reader.ended) {
         (true, true) => Ok(reader.scenario),
         (true, false) => Err(vec![file.says("the last row must be its end: a time and the word `end`")]),

@@ -14,9 +14,6 @@ use crate::value;
 /// Bytes of a whole SHEET.
 pub const BYTES: usize = 4 * SLOTS;
 
-/// The most errors of a sheet that are told.
-const MOST_ERRORS: usize = 20;
-
 /// Where a sheet's numbers come from.
 #[derive(Clone, Debug, PartialEq)]
 pub enum Origin {
@@ -73,22 +70,12 @@ pub fn read(file: &File) -> Result<Sheet, Errors> {
         true => from_bytes(file),
         false => from_text(file),
     };
-    sheet.and_then(|sheet| judged(file, sheet)).map_err(|errors| first_of(file, errors))
+    sheet.and_then(|sheet| judged(file, sheet)).map_err(|errors| file.first_of(errors))
 }
 
 /// Reads a SHEET.
 pub fn read_binary(file: &File) -> Result<Sheet, Errors> {
-    from_bytes(file).and_then(|sheet| judged(file, sheet)).map_err(|errors| first_of(file, errors))
-}
-
-/// The first errors, and how many more there are.
-fn first_of(file: &File, mut errors: Errors) -> Errors {
-    let more = errors.len().saturating_sub(MOST_ERRORS);
-    if more > 0 {
-        errors.truncate(MOST_ERRORS);
-        errors.push(file.says(&format!("and {more} more")));
-    }
-    errors
+    from_bytes(file).and_then(|sheet| judged(file, sheet)).map_err(|errors| file.first_of(errors))
 }
 
 /// A SHEET of another length is a list of another length; the library has the word.
@@ -108,19 +95,18 @@ pub fn to_bytes(list: &[u32]) -> Vec<u8> {
 
 fn from_text(file: &File) -> Result<Sheet, Errors> {
     let mut texts: [Option<(usize, String)>; SLOTS] = std::array::from_fn(|_| None);
-    let mut errors = Errors::new();
+    let mut errors: Vec<(usize, String)> = Vec::new();
     for (line, text) in file.lines()? {
-        if let Err(words) = take_line(&mut texts, line, &text) {
-            errors.push(file.says_at(line, &words));
-        }
+        errors.extend(take_line(&mut texts, line, text).err().map(|words| (line, words)));
     }
     if errors.is_empty() && texts.iter().all(Option::is_none) {
         return Err(vec![file.says(NO_SETTING)]);
     }
-    let sheet = numbers(file, &texts, &mut errors);
+    let sheet = numbers(&texts, &mut errors);
+    errors.sort_by_key(|(line, _)| *line);
     match errors.is_empty() {
         true => Ok(sheet),
-        false => Err(errors),
+        false => Err(errors.iter().map(|(line, words)| file.says_at(*line, words)).collect()),
     }
 }
 
@@ -155,7 +141,7 @@ fn unknown(name: &str) -> String {
 }
 
 /// The numbers of the texts. The module comes first: defaults and ranges of currents and impedances hang on it.
-fn numbers(file: &File, texts: &[Option<(usize, String)>; SLOTS], errors: &mut Errors) -> Sheet {
+fn numbers(texts: &[Option<(usize, String)>; SLOTS], errors: &mut Vec<(usize, String)>) -> Sheet {
     let module = match &texts[MODULE] {
         Some((_, text)) => value::number(&TABLE[MODULE], text).unwrap_or(0),
         None => TABLE[MODULE].default,
@@ -170,7 +156,7 @@ fn numbers(file: &File, texts: &[Option<(usize, String)>; SLOTS], errors: &mut E
         lines[at] = Some(*line);
         list.push(value::number(slot, text).unwrap_or_else(|why| {
             let (text, takes) = (shown::text(text), value::range(slot, module));
-            errors.push(file.says_at(*line, &format!("{} = {text}: {why}; it {takes} (slot {at})", slot.name)));
+            errors.push((*line, format!("{} = {text}: {why}; it {takes} (slot {at})", slot.name)));
             0
         }));
     }

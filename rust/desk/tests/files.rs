@@ -285,7 +285,7 @@ fn not_all_of_many_errors_are_told() {
     let rows: String = (1..=1000).map(|row| format!("{row},high\n")).collect();
     let told = err(&avr(&["scenario", "write", &desk.folder.write("c", format!("seconds,U_AB\n0,1\n{rows}")), "-o", "x"]));
     assert_eq!(told.lines().count(), 21);
-    assert!(told.ends_with(": 980 bad rows more\n"), "{told}");
+    assert!(told.ends_with(": and 980 more\n"), "{told}");
 }
 
 /// A message that nobody can hear ends no run.

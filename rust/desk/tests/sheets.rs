@@ -517,6 +517,14 @@ fn text_of_the_file_is_cut_and_plain_in_errors() {
     }
 }
 
+/// Bad lines and bad values in the order in which they stand.
+#[test]
+fn errors_of_a_sheet_are_told_from_its_top_to_its_end() {
+    let told = sheet::read(&file("T2 = x\nfly\nT1 = y\nT1 = 3\n")).expect_err("a bad sheet");
+    let heads: Vec<&str> = told.iter().map(|words| &words[..6]).collect();
+    assert_eq!(heads, ["file:1", "file:2", "file:3", "file:4"], "{told:?}");
+}
+
 #[test]
 fn the_template_is_a_sheet_of_defaults_for_its_module() {
     for module in [0, 1] {
