@@ -1,19 +1,22 @@
 //! The band that a picture shows behind the voltage.
 
+use crate::bars::bars;
 use crate::inputs::{is_on, U_SUPP2};
 use crate::panel::Label;
-use crate::run::Signal;
-use crate::scale::{mark_text, ValueScale};
+use crate::scale::{mark_text, TimeScale, ValueScale};
+use crate::seen::{spans, Changes};
 use crate::sheet;
-use crate::svg::{BLUE, SKY};
+use crate::svg::{Area, Pen, Svg, BLUE, SKY};
 
-/// The band that stands for a while.
+/// How many voltages to hold a sheet has.
+const BANDS: usize = 4;
+
+/// A band, and the stretches for which it stands.
 pub struct Band {
-    pub from: u32,
-    pub to: u32,
     pub which: usize,
     pub middle: f64,
     pub half: f64,
+    pub on: Vec<(u32, u32)>,
 }
 
 impl Band {
@@ -27,30 +30,35 @@ impl Band {
     }
 }
 
-/// The edges of the last band, and each U_supp once.
+/// The edges of the band that stands at the end, and each U_supp.
 pub fn labels(bands: &[Band], scale: ValueScale) -> Vec<Label> {
-    let Some(last) = bands.last() else { return Vec::new() };
-    let edges = [last.middle + last.half, last.middle - last.half].map(|volts| last.edge_label(scale, volts));
-    let first = |at: &usize| bands[..*at].iter().all(|band| band.which != bands[*at].which);
-    let middles = (0..bands.len()).filter(first).map(|at| bands[at].middle_label(scale));
-    edges.into_iter().chain(middles).collect()
+    let last = bands.iter().max_by_key(|band| band.on.last());
+    let edges = last
+        .into_iter()
+        .flat_map(|last| [last.middle + last.half, last.middle - last.half].map(|volts| last.edge_label(scale, volts)));
+    edges.chain(bands.iter().map(|band| band.middle_label(scale))).collect()
 }
 
 /// The bands by the keys of U_supp. They are drawn only; what is low and high is the unit's word.
-pub fn bands(contacts: &Signal<u32>, ticks: u32, list: &[u32]) -> Vec<Band> {
-    let mut bands: Vec<Band> = Vec::new();
-    for (at, (from, now)) in contacts.iter().enumerate() {
-        let to = contacts.get(at + 1).map_or(ticks, |(next, _)| *next);
-        let which = key(*now);
-        match bands.last_mut() {
-            Some(last) if last.which == which => last.to = to,
-            _ => {
-                let (middle, half) = sheet::band(list, which);
-                bands.push(Band { from: *from, to, which, middle, half });
-            }
+pub fn bands(contacts: Changes<u32>, to: u32, list: &[u32]) -> Vec<Band> {
+    let band = |which| {
+        let (middle, half) = sheet::band(list, which);
+        Band { which, middle, half, on: spans(contacts, to, |now| key(*now) == which) }
+    };
+    (0..BANDS).map(band).filter(|band| !band.on.is_empty()).collect()
+}
+
+/// Draws the bands behind the voltage; where they change too fast for that, pale and without their middle.
+pub fn draw(svg: &mut Svg, time: TimeScale, scale: ValueScale, bands: &[Band]) {
+    for (band, bar) in bands.iter().flat_map(|band| bars(time, &band.on).into_iter().map(move |bar| (band, bar))) {
+        let (y, bottom) = (scale.at(band.middle + band.half), scale.at(band.middle - band.half));
+        let (x, to) = (bar.x, bar.to.min(time.right()));
+        svg.area(Area { x, y, width: to - x, height: bottom - y }, SKY, if bar.is_striped() { 0.15 } else { 0.3 });
+        if !bar.is_striped() {
+            let y = scale.at(band.middle);
+            svg.line((x, y), (to, y), Pen { colour: BLUE, width: 1.2, dashes: "8 4" });
         }
     }
-    bands
 }
 
 /// Which U_supp the keys choose, from 0: the highest key that is on.

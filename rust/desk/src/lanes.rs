@@ -4,14 +4,19 @@ use std::ops::RangeInclusive;
 
 use library::ORGANS;
 
+use crate::boxes::Numbers;
 use crate::drive::Way;
-use crate::inputs::{is_on, CONTACTS, SWITCHING};
+use crate::inputs::{is_on, CONTACTS, READINGS, SWITCHING};
+use crate::names::at;
 use crate::outputs::{
-    short, BLOCKS, FAULTS, HIGH, LOW, LOWER, RAISE, RANGE_ERROR, SHORT, SUPPLY_TRIP, TRIPS, WORN, WRONG_CODE,
+    short, BLOCKS, FAULTS, HIGH, LOW, LOWER, OPERATIONS, RAISE, RANGE_ERROR, SHORT, SUPPLY_TRIP, TAP, TRIPS, WORN, WRONG_CODE,
 };
 use crate::press;
-use crate::run::{History, Signal};
+use crate::seen::{spans, Changes, Seen};
 use crate::svg::{BLACK, BLUE, GREEN, ORANGE, PURPLE, SKY, VERMILLION, YELLOW};
+
+/// The slot that lets the unit count operations.
+pub const COUNTED: usize = at("XB18");
 
 /// A mark at the start of a bar.
 #[derive(Clone, Copy, PartialEq)]
@@ -34,35 +39,35 @@ pub struct Lane {
 pub type Group = Vec<Lane>;
 
 /// What is regulated: low and high, commands, the switching contact if the drive has one.
-pub fn moving(history: &History, continuous: bool) -> Group {
+pub fn moving(seen: &Seen, continuous: bool) -> Group {
     let contact = (!continuous).then(|| {
         let label = CONTACTS[SWITCHING as usize].name.to_string() + " contact";
-        lane(label, BLACK, contact_on(history, SWITCHING))
+        lane(label, BLACK, contact_on(seen, SWITCHING))
     });
     let lanes = [
-        output(history, LOW, "voltage low", ORANGE),
-        output(history, HIGH, "voltage high", PURPLE),
-        Lane { tip: Tip::Up, timed: true, ..output(history, RAISE, "raise command", BLUE) },
-        Lane { tip: Tip::Down, timed: true, ..output(history, LOWER, "lower command", VERMILLION) },
+        output(seen, LOW, "voltage low", ORANGE),
+        output(seen, HIGH, "voltage high", PURPLE),
+        Lane { tip: Tip::Up, timed: true, ..output(seen, RAISE, "raise command", BLUE) },
+        Lane { tip: Tip::Down, timed: true, ..output(seen, LOWER, "lower command", VERMILLION) },
     ];
     lanes.into_iter().chain(contact).collect()
 }
 
 /// The four blocks.
-pub fn blocks(history: &History) -> Group {
-    BLOCKS.map(|field| output(history, field, SHORT[field], YELLOW)).collect()
+pub fn blocks(seen: &Seen) -> Group {
+    BLOCKS.map(|field| output(seen, field, SHORT[field], YELLOW)).collect()
 }
 
 /// Trips and faults: a lane for each that came, and one for each kind if none did; the supply trip.
-pub fn alarms(history: &History, continuous: bool) -> Group {
-    let mut group = some_or_one(history, continuous, TRIPS..=TRIPS + ORGANS - 1, "trip", PURPLE);
-    group.extend(some_or_one(history, continuous, FAULTS, "fault", VERMILLION));
-    group.push(Lane { timed: true, ..output(history, SUPPLY_TRIP, SHORT[SUPPLY_TRIP], VERMILLION) });
+pub fn alarms(seen: &Seen, continuous: bool) -> Group {
+    let mut group = some_or_one(seen, continuous, TRIPS..=TRIPS + ORGANS - 1, "trip", PURPLE);
+    group.extend(some_or_one(seen, continuous, FAULTS, "fault", VERMILLION));
+    group.push(Lane { timed: true, ..output(seen, SUPPLY_TRIP, SHORT[SUPPLY_TRIP], VERMILLION) });
     group
 }
 
-fn some_or_one(history: &History, continuous: bool, fields: RangeInclusive<usize>, kind: &str, colour: &'static str) -> Group {
-    let lanes = fields.map(|field| output(history, field, &format!("{kind}: {}", short(field, continuous)), colour));
+fn some_or_one(seen: &Seen, continuous: bool, fields: RangeInclusive<usize>, kind: &str, colour: &'static str) -> Group {
+    let lanes = fields.map(|field| output(seen, field, &format!("{kind}: {}", short(field, continuous)), colour));
     let came: Group = lanes.filter(|lane| !lane.on.is_empty()).map(|lane| Lane { timed: true, ..lane }).collect();
     match came.is_empty() {
         true => vec![lane(format!("{kind}s: none"), colour, Vec::new())],
@@ -70,50 +75,59 @@ fn some_or_one(history: &History, continuous: bool, fields: RangeInclusive<usize
     }
 }
 
-/// Wrong tap codes, range errors and wear, where they come.
-pub fn notes(history: &History) -> Group {
-    let lanes = [WRONG_CODE, RANGE_ERROR, WORN].map(|field| output(history, field, SHORT[field], SKY));
-    lanes.into_iter().filter(|lane| !lane.on.is_empty()).collect()
+/// The tap, and the operations where the sheet has them counted.
+pub fn numbers<'a>(seen: &Seen<'a>, list: &[u32]) -> Vec<Numbers<'a>> {
+    let tap = Numbers { label: SHORT[TAP], changes: seen.outputs[TAP], zero_is_none: true };
+    let operations = Numbers { label: SHORT[OPERATIONS], changes: seen.outputs[OPERATIONS], zero_is_none: false };
+    [Some(tap), (list[COUNTED] == 1).then_some(operations)].into_iter().flatten().collect()
+}
+
+/// The tick on which the operations reach N_max.
+pub fn worn(seen: &Seen) -> Option<u32> {
+    let on = spans(seen.outputs[WORN], seen.to, |worn| *worn != 0);
+    on.into_iter().map(|(from, _)| from).find(|from| *from >= seen.from)
+}
+
+/// Readings that are missing to the unit, wrong tap codes, range errors and wear, where they come.
+pub fn notes(seen: &Seen) -> Group {
+    let missing = bits(seen.missing).map(|bit| {
+        let on = spans(seen.missing, seen.to, |missing| is_on(*missing, bit));
+        lane(format!("missing: {}", READINGS[bit as usize].name), ORANGE, on)
+    });
+    let others = [WRONG_CODE, RANGE_ERROR, WORN].map(|field| output(seen, field, SHORT[field], SKY));
+    let came = missing.chain(others).filter(|lane| !lane.on.is_empty());
+    came.map(|lane| Lane { timed: true, ..lane }).collect()
 }
 
 /// Contacts and keys that are ever on, but for the switching contact that has a lane of its own.
-pub fn contacts(history: &History, continuous: bool) -> Group {
-    let bits = (0..CONTACTS.len() as u32).filter(|bit| *bit != SWITCHING || continuous);
-    let lanes = bits.map(|bit| lane(format!("in: {}", CONTACTS[bit as usize].name), GREEN, contact_on(history, bit)));
-    lanes.filter(|lane| !lane.on.is_empty()).collect()
+pub fn contacts(seen: &Seen, continuous: bool) -> Group {
+    let bits = bits(seen.contacts).filter(|bit| *bit != SWITCHING || continuous);
+    bits.map(|bit| lane(format!("in: {}", CONTACTS[bit as usize].name), GREEN, contact_on(seen, bit))).collect()
+}
+
+/// The bits that are ever on.
+fn bits(masks: Changes<u32>) -> impl Iterator<Item = u32> {
+    let ever = masks.iter().fold(0, |ever, (_, mask)| ever | mask);
+    (0..u32::BITS).filter(move |bit| is_on(ever, *bit))
 }
 
 /// A lane for each way in which a press was ever remembered, in the colour of its command.
-pub fn remembered(history: &History) -> Group {
+pub fn remembered(seen: &Seen) -> Group {
     let lanes = [(Way::Raise, BLUE, Tip::Up), (Way::Lower, VERMILLION, Tip::Down)].map(|(way, colour, tip)| {
-        let on = spans(&history.remembered, history.ticks, |press| *press == Some(way));
+        let on = spans(seen.remembered, seen.to, |press| *press == Some(way));
         Lane { tip, ..lane(press::short(way).to_string(), colour, on) }
     });
     lanes.into_iter().filter(|lane| !lane.on.is_empty()).collect()
 }
 
-fn output(history: &History, field: usize, label: &str, colour: &'static str) -> Lane {
-    lane(label.to_string(), colour, spans(&history.outputs[field], history.ticks, |value| *value != 0))
+fn output(seen: &Seen, field: usize, label: &str, colour: &'static str) -> Lane {
+    lane(label.to_string(), colour, spans(seen.outputs[field], seen.to, |value| *value != 0))
 }
 
-fn contact_on(history: &History, bit: u32) -> Vec<(u32, u32)> {
-    spans(&history.contacts, history.ticks, |contacts| is_on(*contacts, bit))
+fn contact_on(seen: &Seen, bit: u32) -> Vec<(u32, u32)> {
+    spans(seen.contacts, seen.to, |contacts| is_on(*contacts, bit))
 }
 
 fn lane(label: String, colour: &'static str, on: Vec<(u32, u32)>) -> Lane {
     Lane { label, colour, tip: Tip::None, timed: false, on }
-}
-
-/// The stretches in which a signal is `on`.
-pub fn spans<T>(signal: &Signal<T>, ticks: u32, on: impl Fn(&T) -> bool) -> Vec<(u32, u32)> {
-    let mut spans: Vec<(u32, u32)> = Vec::new();
-    for (at, (from, value)) in signal.iter().enumerate() {
-        let to = signal.get(at + 1).map_or(ticks, |(next, _)| *next);
-        match spans.last_mut() {
-            _ if !on(value) => (),
-            Some(last) if last.1 == *from => last.1 = to,
-            _ => spans.push((*from, to)),
-        }
-    }
-    spans
 }

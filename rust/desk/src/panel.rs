@@ -1,26 +1,28 @@
 //! Panels: readings over time, with an axis on the left and names on the right.
 
 use std::borrow::Cow;
+use std::ops::RangeInclusive;
 
 use library::{Sample, GOOD, INVALID};
 
 use crate::scale::{mark_text, TimeScale, ValueScale};
 use crate::svg::{short, Anchor, Area, Pen, Style, Svg, FAINT, GREY, INK};
+use crate::text::Room;
 
-/// What is drawn: a reading, or what comes of some. A number below the least is left out.
+/// What is drawn: a reading, or what comes of some. A number out of its bounds is left out, as it is missing to the unit.
 pub struct Series<'a> {
     pub label: String,
     pub colour: &'static str,
     pub dashes: &'static str,
-    pub least: f64,
+    pub bounds: RangeInclusive<f64>,
     pub signal: Cow<'a, [(u32, Sample)]>,
 }
 
 impl Series<'_> {
-    /// The number of a sample that is not Invalid, and neither wild nor below the least.
+    /// The number of a sample that is neither Invalid nor out of bounds.
     pub fn number(&self, sample: &Sample) -> Option<f64> {
         let value = f64::from(sample.value);
-        (sample.quality != INVALID && (self.least..=1000.0).contains(&value)).then_some(value)
+        (sample.quality != INVALID && self.bounds.contains(&value)).then_some(value)
     }
 
     /// The numbers, in their order.
@@ -76,10 +78,10 @@ pub fn draw(svg: &mut Svg, time: TimeScale, scale: ValueScale, series: &Series) 
 fn steps(time: TimeScale, scale: ValueScale, series: &Series, wanted: impl Fn(&Sample) -> bool) -> String {
     let mut path = Path::default();
     for (at, (from, sample)) in series.signal.iter().enumerate() {
-        let to = series.signal.get(at + 1).map_or(time.ticks, |(next, _)| *next);
+        let to = series.signal.get(at + 1).map_or(time.to, |(next, _)| *next);
         match series.number(sample).filter(|_| wanted(sample)) {
             Some(value) => path.step(time.at(*from), time.at(to), scale.at(value)),
-            None => path.flush(),
+            None => path.gap(),
         }
     }
     path.end()
@@ -92,34 +94,42 @@ struct Path {
     column: Option<Column>,
 }
 
-/// What lies in one pixel column: from where to where it goes on, and the heights it touches.
+/// What lies in one pixel column: from where to where it goes on, the heights it touches, and whether a gap comes after it.
 struct Column {
     x: f64,
     to: f64,
     low: f64,
     high: f64,
     last: f64,
+    ends: bool,
 }
 
 impl Path {
     fn step(&mut self, x: f64, to: f64, y: f64) {
         match &mut self.column {
-            Some(column) if x - column.x < 0.5 => {
+            Some(column) if x - column.x < 1.0 => {
                 column.to = to;
                 column.low = column.low.min(y);
                 column.high = column.high.max(y);
                 column.last = y;
+                column.ends = false;
             }
-            _ => {
-                let fresh = self.column.is_none();
+            column => {
+                let begins = column.as_ref().is_none_or(|column| column.ends);
                 self.flush();
-                self.text.push_str(&format!("{}{} {}", if fresh { "M" } else { "L" }, short(x), short(y)));
-                self.column = Some(Column { x, to, low: y, high: y, last: y });
+                self.text.push_str(&format!("{}{} {}", if begins { "M" } else { "L" }, short(x), short(y)));
+                self.column = Some(Column { x, to, low: y, high: y, last: y, ends: false });
             }
         }
     }
 
-    /// Ends the column; the next step begins anew.
+    /// Nothing is drawn before the next step, if that is in another column.
+    fn gap(&mut self) {
+        if let Some(column) = &mut self.column {
+            column.ends = true;
+        }
+    }
+
     fn flush(&mut self) {
         if let Some(Column { to, low, high, last, .. }) = self.column.take() {
             if low < high {
@@ -142,8 +152,9 @@ pub struct Label {
     pub y: f64,
 }
 
-/// The names on the right, moved apart, with a stroke to their heights.
-pub fn labels(svg: &mut Svg, x: f64, scale: ValueScale, mut labels: Vec<Label>) {
+/// The names on the right, moved apart and cut to this width, with a stroke to their heights.
+pub fn labels(svg: &mut Svg, x: f64, width: f64, scale: ValueScale, mut labels: Vec<Label>) {
+    let room = Room { width: width - 20.0, size: 11.0 };
     labels.sort_by(|a, b| a.y.total_cmp(&b.y));
     let mut places: Vec<f64> = Vec::new();
     for label in &labels {
@@ -153,8 +164,8 @@ pub fn labels(svg: &mut Svg, x: f64, scale: ValueScale, mut labels: Vec<Label>) 
     lift_into(&mut places, scale.top + scale.height);
     for (label, place) in labels.iter().zip(places) {
         svg.line((x + 1.0, label.y), (x + 12.0, place), Pen { colour: label.colour, width: 1.2, dashes: "" });
-        let style = Style { size: 11.0, colour: INK, anchor: Anchor::Start };
-        svg.text((x + 15.0, place + 4.0), &label.words, style);
+        let style = Style { size: room.size, colour: INK, anchor: Anchor::Start };
+        svg.text((x + 15.0, place + 4.0), &room.cut(&label.words), style);
     }
 }
 

@@ -1,35 +1,38 @@
 //! The picture: panels of readings, lanes of what is on, the tap, and a time axis.
 
-use crate::band::{self, Band};
-use crate::lanes::{self, Group, Lane, Tip};
+use crate::band;
+use crate::bars::{self, stripes, triangle, LANE};
+use crate::boxes;
+use crate::clock::{Clock, MARK_SIZE};
+use crate::head::Head;
+use crate::lanes::{self, Group};
 use crate::limits;
-use crate::names::{self, BREAKER_RATING, COMPENSATION, CT_RATING, TABLE};
-use crate::outputs::TAP;
+use crate::names::{rated_amps, COMPENSATION, MODULE, TABLE};
 use crate::panel::{self, Label, Series, LABEL_ROW};
 use crate::run::History;
 use crate::scale::{mark_text, TimeScale, ValueScale};
-use crate::series::{self, Panel};
-use crate::sheet::{is_continuous, ALONG_RX, BY_U_COMP};
+use crate::seen::Seen;
+use crate::series::{Brought, Panel};
+use crate::sheet::is_continuous;
 use crate::svg::*;
-use crate::value;
 
 const WIDTH: f64 = 1120.0;
 const LEFT: f64 = 205.0;
 const RIGHT: f64 = 150.0;
-const TOP: f64 = 74.0;
 const VOLTAGE_HEIGHT: f64 = 190.0;
 const SMALL_HEIGHT: f64 = 84.0;
-const LANE: f64 = 22.0;
-const BAR: f64 = 13.0;
 const GAP: f64 = 14.0;
+/// The height of the axis, and of the line that explains stripes.
+const AXIS: f64 = 50.0;
 
-/// What is drawn, and how far down it has come.
+/// What is drawn, how far down it has come, and whether it has stripes.
 struct Picture<'a> {
     svg: Svg,
-    history: &'a History,
+    seen: &'a Seen<'a>,
     list: &'a [u32],
     time: TimeScale,
     y: f64,
+    is_striped: bool,
 }
 
 /// What a picture shows: its title, and the ticks between which it looks.
@@ -49,18 +52,17 @@ impl<'a> View<'a> {
 
 /// The SVG of a run on the sheet `list`.
 pub fn picture(history: &History, list: &[u32], view: View) -> String {
-    let title = view.title;
-    let time = TimeScale { left: LEFT, width: WIDTH - LEFT - RIGHT, ticks: history.ticks };
-    let mut picture = Picture { svg: Svg::new(), history, list, time, y: TOP };
-    let others = series::others(history);
-    let height = height(history, list, &others);
-    picture.grid(height - 50.0);
-    picture.head(title);
-    picture.voltage();
-    picture.others(&others);
+    let View { title, from, to } = view;
+    let seen = &Seen::new(history, from, to);
+    let clock = Clock::new(history.ticks, to - from);
+    let time = TimeScale { left: LEFT, width: WIDTH - LEFT - RIGHT, from, to, clock };
+    let mut svg = Svg::new();
+    let top = Head { title, list, ticks: history.ticks, width: WIDTH }.draw(&mut svg, time);
+    let mut picture = Picture { svg, seen, list, time, y: top, is_striped: false };
+    picture.panels(Brought { seen, rated: rated_amps(list[MODULE]) });
     picture.lanes();
-    picture.axis(height - 50.0);
-    picture.svg.document(WIDTH, height, title, description(list))
+    picture.axis(top);
+    picture.svg.document(WIDTH, picture.y, title, description(list))
 }
 
 fn description(list: &[u32]) -> &'static str {
@@ -70,22 +72,6 @@ fn description(list: &[u32]) -> &'static str {
     }
 }
 
-/// Everything below the voltage, in the order in which it is drawn.
-fn groups(history: &History, list: &[u32]) -> Vec<Group> {
-    let continuous = is_continuous(list);
-    let groups = [lanes::moving(history, continuous), Group::new(), lanes::blocks(history), lanes::alarms(history, continuous)];
-    let mut contacts = lanes::contacts(history, continuous);
-    contacts.extend(lanes::remembered(history));
-    let optional = [lanes::notes(history), contacts];
-    groups.into_iter().chain(optional.into_iter().filter(|group| !group.is_empty())).collect()
-}
-
-fn height(history: &History, list: &[u32], others: &[Panel]) -> f64 {
-    let panels: f64 = others.iter().map(|panel| small_height(panel, list) + GAP).sum();
-    let lanes: f64 = groups(history, list).iter().map(|group| group.len().max(1) as f64 * LANE + GAP).sum();
-    TOP + VOLTAGE_HEIGHT + GAP + panels + lanes + 50.0
-}
-
 /// The height of a panel below the voltage, with room for its names.
 fn small_height(panel: &Panel, list: &[u32]) -> f64 {
     let names = panel.series.len() + limits::watched(&panel.readings, list).count();
@@ -93,53 +79,27 @@ fn small_height(panel: &Panel, list: &[u32]) -> f64 {
 }
 
 impl Picture<'_> {
-    fn head(&mut self, title: &str) {
-        let large = Style { size: 18.0, colour: INK, anchor: Anchor::Start };
-        self.svg.text((20.0, 30.0), title, large);
-        let small = Style { size: 11.5, colour: GREY, anchor: Anchor::Start };
-        self.svg.text((20.0, 52.0), &self.settings(), small);
-    }
-
-    /// The settings that the picture hangs on; ratings that are equal change nothing.
-    fn settings(&self) -> String {
-        let compensation: &[&str] = match self.list[COMPENSATION] {
-            BY_U_COMP if self.list[CT_RATING] == self.list[BREAKER_RATING] => &["U_comp"],
-            BY_U_COMP => &["U_comp", "Inom_ct1", "Inom_bus1"],
-            ALONG_RX => &["R_set", "X_set"],
-            _ => &[],
-        };
-        let usual: &[&str] = match is_continuous(self.list) {
-            true => &["XB2", "U_supp1", "dU_set", "T1", "T3", "T4", "T8"],
-            false => &["U_supp1", "dU_set", "T1", "T2", "T3", "T4", "T5", "T6", "T7", "T8"],
-        };
-        let names = usual.iter().chain(compensation);
-        let one = |name: &&str| {
-            let slot = names::find(name).expect("a name of the table");
-            format!("{name} {}", value::text(&TABLE[slot], self.list[slot]))
-        };
-        names.map(one).collect::<Vec<_>>().join(" · ")
-    }
-
-    fn grid(&mut self, bottom: f64) {
-        for mark in self.time.marks() {
-            let x = self.time.at_seconds(mark);
-            self.svg.line((x, TOP), (x, bottom), Pen { colour: FAINT, width: 0.7, dashes: "" });
+    fn panels(&mut self, brought: Brought) {
+        self.voltage(brought.voltage());
+        for panel in brought.others() {
+            let (low, high) = panel::extent(&panel.series).unwrap_or((0.0, 1.0));
+            let scale = ValueScale::around(low.min(0.0), high.max(0.0), self.y, small_height(&panel, self.list));
+            self.panel(&panel, scale, Vec::new());
         }
     }
 
-    fn voltage(&mut self) {
-        let history = self.history;
-        let mut panel = series::voltage(history);
+    /// The voltage in its bands.
+    fn voltage(&mut self, mut panel: Panel) {
         if self.list[COMPENSATION] != 0 {
             panel.series.iter_mut().for_each(|series| series.label.push_str(", measured"));
         }
-        let bands = band::bands(&history.contacts, history.ticks, self.list);
+        let bands = band::bands(self.seen.contacts, self.time.to, self.list);
         let edges = bands.iter().flat_map(|band| [band.middle - band.half, band.middle + band.half]);
         let (low, high) = edges
             .fold(panel::extent(&panel.series).unwrap_or((100.0, 100.0)), |(low, high), edge| (edge.min(low), edge.max(high)));
         let scale = ValueScale::around(low, high, self.y, VOLTAGE_HEIGHT);
-        let labels = self.draw_bands(&bands, scale);
-        self.panel(&panel, scale, labels);
+        band::draw(&mut self.svg, self.time, scale, &bands);
+        self.panel(&panel, scale, band::labels(&bands, scale));
     }
 
     /// The axis of a panel, its limits, and what is drawn in it; labels for these and for what is there already.
@@ -150,20 +110,8 @@ impl Picture<'_> {
             panel::draw(&mut self.svg, self.time, scale, series);
             labels.extend(label_of(series, scale));
         }
-        panel::labels(&mut self.svg, self.time.right(), scale, labels);
+        panel::labels(&mut self.svg, self.time.right(), RIGHT, scale, labels);
         self.y += scale.height + GAP;
-    }
-
-    /// The bands and their middles.
-    fn draw_bands(&mut self, bands: &[Band], scale: ValueScale) -> Vec<Label> {
-        for band in bands {
-            let (x, to) = (self.time.at(band.from), self.time.at(band.to));
-            let (top, bottom) = (scale.at(band.middle + band.half), scale.at(band.middle - band.half));
-            self.svg.area(Area { x, y: top, width: to - x, height: bottom - top }, SKY, 0.3);
-            let y = scale.at(band.middle);
-            self.svg.line((x, y), (to, y), Pen { colour: BLUE, width: 1.2, dashes: "8 4" });
-        }
-        band::labels(bands, scale)
     }
 
     /// The limits of the readings in a panel, where they are watched and the scale reaches them.
@@ -184,129 +132,63 @@ impl Picture<'_> {
         f64::from(self.list[slot]) / 1000.0
     }
 
-    fn others(&mut self, panels: &[Panel]) {
-        for panel in panels {
-            let (low, high) = panel::extent(&panel.series).unwrap_or((0.0, 1.0));
-            let scale = ValueScale::around(low.min(0.0), high.max(0.0), self.y, small_height(panel, self.list));
-            self.panel(panel, scale, Vec::new());
-        }
-    }
-
     fn lanes(&mut self) {
-        for group in groups(self.history, self.list) {
-            if group.is_empty() {
-                self.tap();
-            }
-            for lane in &group {
-                self.lane(lane);
-            }
-            self.y += GAP;
+        let (seen, continuous) = (self.seen, is_continuous(self.list));
+        self.group(&lanes::moving(seen, continuous));
+        self.numbers();
+        self.group(&lanes::blocks(seen));
+        self.group(&lanes::alarms(seen, continuous));
+        self.group(&lanes::notes(seen));
+        let contacts = lanes::contacts(seen, continuous);
+        self.group(&contacts.into_iter().chain(lanes::remembered(seen)).collect());
+    }
+
+    /// Lanes that belong together, if there are any.
+    fn group(&mut self, group: &Group) {
+        for lane in group {
+            let (height, is_striped) = bars::draw(&mut self.svg, self.time, lane, self.y);
+            self.y += height;
+            self.is_striped |= is_striped;
         }
+        self.y += if group.is_empty() { 0.0 } else { GAP };
     }
 
-    fn lane_label(&mut self, label: &str) {
-        let y = self.y + LANE / 2.0;
-        self.svg.line((self.time.left, y), (self.time.right(), y), Pen { colour: FAINT, width: 1.0, dashes: "" });
-        let style = Style { size: 12.0, colour: INK, anchor: Anchor::End };
-        self.svg.text((self.time.left - 10.0, y + 4.0), label, style);
-    }
-
-    fn lane(&mut self, lane: &Lane) {
-        self.lane_label(&lane.label);
-        let bars = bars(self.time, &lane.on);
-        for (at, bar) in bars.iter().enumerate() {
-            let next = bars.get(at + 1).map_or(self.time.right() + RIGHT, |next| next.x);
-            self.bar(lane, *bar, next);
+    /// The tap and the operations, with a mark where these reach N_max.
+    fn numbers(&mut self) {
+        for numbers in lanes::numbers(self.seen, self.list) {
+            self.y += boxes::draw(&mut self.svg, self.time, &numbers, self.y);
         }
-        self.y += LANE;
-    }
-
-    /// A bar, its tip, and its time where that has room before the next bar.
-    fn bar(&mut self, lane: &Lane, bar: Bar, next: f64) {
-        let top = self.y + (LANE - BAR) / 2.0;
-        let area = Area { x: bar.x, y: top, width: bar.to - bar.x, height: BAR };
-        self.svg.frame(area, lane.colour, Pen { colour: INK, width: 0.5, dashes: "" });
-        let mut x = bar.to;
-        if lane.tip != Tip::None {
-            self.tip(lane, x + 3.0);
-            x += 13.0;
+        if let Some(tick) = lanes::worn(self.seen) {
+            triangle(&mut self.svg, self.time.at(tick), (self.y - LANE - 4.0, self.y - LANE + 3.0), VERMILLION);
         }
-        let time = format!("{} s", mark_text(f64::from(bar.tick) * value::TICK_MS as f64 / 1000.0));
-        let fits = |words: &String| x + 4.0 + text_width(words, 10.5) < next;
-        let words = [format!("from {time}"), time].into_iter().find(fits);
-        if let Some(words) = words.filter(|_| lane.timed) {
-            self.time_of_bar(x + 4.0, &words);
-        }
+        self.y += GAP;
     }
 
-    /// The time of a bar, on white, so that no line runs through it.
-    fn time_of_bar(&mut self, x: f64, words: &str) {
-        let area = Area { x: x - 2.0, y: self.y + 4.0, width: text_width(words, 10.5), height: LANE - 8.0 };
-        self.svg.area(area, "#FFFFFF", 1.0);
-        let style = Style { size: 10.5, colour: INK, anchor: Anchor::Start };
-        self.svg.text((x, self.y + LANE / 2.0 + 4.0), words, style);
-    }
-
-    fn tip(&mut self, lane: &Lane, x: f64) {
-        let (top, bottom) = (self.y + 6.0, self.y + LANE - 6.0);
-        let (base, point) = if lane.tip == Tip::Up { (bottom, top) } else { (top, bottom) };
-        let path = format!("M{} {}H{}L{} {}Z", short(x), short(base), short(x + 10.0), short(x + 5.0), short(point));
-        self.svg.shape(&path, lane.colour);
-    }
-
-    /// The tap: a box for each number.
-    fn tap(&mut self) {
-        self.lane_label("tap");
-        let signal = &self.history.outputs[TAP];
-        let top = self.y + (LANE - BAR) / 2.0 - 1.5;
-        for (at, (from, tap)) in signal.iter().enumerate() {
-            let to = signal.get(at + 1).map_or(self.history.ticks, |(next, _)| *next);
-            let (x, to) = (self.time.at(*from), self.time.at(to));
-            let words = if *tap == 0 { "not known".to_string() } else { tap.to_string() };
-            let area = Area { x, y: top, width: (to - x).max(1.0), height: BAR + 3.0 };
-            let fill = if at % 2 == 0 { "#FFFFFF" } else { "#ECECEC" };
-            self.svg.frame(area, fill, Pen { colour: GREY, width: 0.8, dashes: "" });
-            if text_width(&words, 11.0) + 4.0 < to - x {
-                let style = Style { size: 11.0, colour: INK, anchor: Anchor::Middle };
-                self.svg.text(((x + to) / 2.0, self.y + LANE / 2.0 + 4.0), &words, style);
-            }
-        }
-        self.y += LANE;
-    }
-
-    fn axis(&mut self, y: f64) {
+    /// The axis, and below all else a line for each of its marks, from the panels' top on.
+    fn axis(&mut self, top: f64) {
+        let (mut grid, y) = (Svg::new(), self.y);
         let pen = Pen { colour: INK, width: 1.0, dashes: "" };
         self.svg.line((self.time.left, y), (self.time.right(), y), pen);
-        let style = Style { size: 11.5, colour: INK, anchor: Anchor::Middle };
-        for mark in self.time.marks() {
-            let x = self.time.at_seconds(mark);
+        let style = Style { size: MARK_SIZE, colour: INK, anchor: Anchor::Middle };
+        for (x, words) in self.time.marks() {
+            grid.line((x, top), (x, y), Pen { colour: FAINT, width: 0.7, dashes: "" });
             self.svg.line((x, y), (x, y + 5.0), pen);
-            self.svg.text((x, y + 18.0), &mark_text(mark), style);
+            self.svg.text((x, y + 18.0), &words, style);
         }
-        self.svg.text((self.time.left + self.time.width / 2.0, y + 38.0), "time, s", style);
-    }
-}
-
-/// A bar in pixels, and the tick on which it begins.
-#[derive(Clone, Copy)]
-struct Bar {
-    x: f64,
-    to: f64,
-    tick: u32,
-}
-
-/// The bars of a lane, each wide enough to see; bars that touch become one.
-fn bars(time: TimeScale, on: &[(u32, u32)]) -> Vec<Bar> {
-    let mut bars: Vec<Bar> = Vec::new();
-    for (from, to) in on {
-        let x = time.at(*from);
-        let to = time.at(*to).max(x + 2.0);
-        match bars.last_mut() {
-            Some(last) if x < last.to + 0.5 => last.to = to,
-            _ => bars.push(Bar { x, to, tick: *from }),
+        let name = self.time.clock.axis(self.time.step());
+        self.svg.text((self.time.left + self.time.width / 2.0, y + 38.0), name, style);
+        if self.is_striped {
+            self.explain_stripes(y + 38.0);
         }
+        self.svg.over(grid);
+        self.y += AXIS;
     }
-    bars
+
+    fn explain_stripes(&mut self, y: f64) {
+        stripes(&mut self.svg, Area { x: 20.0, y: y - 10.0, width: 24.0, height: 11.0 }, GREY);
+        let style = Style { size: 10.5, colour: GREY, anchor: Anchor::Start };
+        self.svg.text((50.0, y), "on and off too often to draw apart, × how many times", style);
+    }
 }
 
 /// The name of a series, at its last number.

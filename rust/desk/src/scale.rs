@@ -1,46 +1,47 @@
 //! Scales: from ticks and readings to pixels, and round numbers for axes.
 
-use crate::value::TICK_MS;
+use crate::clock::{ms, Clock};
 
-/// Time from left to right.
+/// Time from left to right, between two ticks, and how it is told.
 #[derive(Clone, Copy)]
 pub struct TimeScale {
     pub left: f64,
     pub width: f64,
-    pub ticks: u32,
+    pub from: u32,
+    pub to: u32,
+    pub clock: Clock,
 }
 
 impl TimeScale {
-    /// Where the change of a tick is drawn: at the tick's end, and at the very left for the first one.
+    /// Where the change of a tick is drawn: at the tick's end, and at time 0 for the first one. What was before is at the left.
     pub fn at(&self, tick: u32) -> f64 {
         let shown = if tick <= 1 { 0 } else { tick };
-        self.left + self.width * f64::from(shown) / f64::from(self.ticks.max(1))
+        self.at_ms(ms(shown.clamp(self.from, self.to)))
+    }
+
+    fn at_ms(&self, time: u64) -> f64 {
+        self.left + (time - ms(self.from)) as f64 * self.room()
+    }
+
+    /// The pixels of a millisecond.
+    fn room(&self) -> f64 {
+        self.width / ms(self.to - self.from).max(1) as f64
     }
 
     pub fn right(&self) -> f64 {
         self.left + self.width
     }
 
-    pub fn at_seconds(&self, seconds: f64) -> f64 {
-        self.left + self.width * seconds / self.seconds()
+    /// The step of the axis, in milliseconds.
+    pub fn step(&self) -> u64 {
+        self.clock.step(ms(self.from), ms(self.to), self.room())
     }
 
-    pub fn seconds(&self) -> f64 {
-        f64::from(self.ticks.max(1)) * TICK_MS as f64 / 1000.0
-    }
-
-    /// Round seconds, about ten of them.
-    pub fn marks(&self) -> Vec<f64> {
-        marks(0.0, self.seconds(), time_step(self.seconds() / 10.0))
-    }
-}
-
-/// A step of at least this many seconds that a clock reader likes.
-fn time_step(least: f64) -> f64 {
-    const STEPS: [f64; 12] = [10.0, 15.0, 20.0, 30.0, 60.0, 120.0, 300.0, 600.0, 900.0, 1800.0, 3600.0, 7200.0];
-    match least <= 5.0 {
-        true => round_step(least),
-        false => STEPS.into_iter().find(|step| *step >= least).unwrap_or(14400.0),
+    /// Round times, where they are and what they are called.
+    pub fn marks(&self) -> Vec<(f64, String)> {
+        let step = self.step();
+        let times = (ms(self.from).div_ceil(step)..=ms(self.to) / step).map(|n| n * step);
+        times.map(|time| (self.at_ms(time), self.clock.mark(time, step))).collect()
     }
 }
 

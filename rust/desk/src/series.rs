@@ -2,12 +2,14 @@
 
 use std::borrow::Cow;
 
-use library::Sample;
+use library::{Sample, INVALID};
 
 use crate::inputs::{PAIRS, READINGS, SCALARS, U_AB, U_AB_PAIR};
+use crate::missing::{most, why};
 use crate::panel::{Series, DEGREES};
 use crate::phasor;
-use crate::run::{keep, History, Signal};
+use crate::run::{keep, Signal};
+use crate::seen::Seen;
 use crate::svg::{BLACK, BLUE, GREEN, ORANGE, SKY, VERMILLION};
 
 /// A panel: the name of its axis, its unit, the readings whose limits it shows, and what is drawn.
@@ -25,85 +27,99 @@ const READING_PENS: [(&str, &str); SCALARS] =
 /// How each pair is drawn, so that it is seen where it lies on its reading: U_AB's over it, a current's under it.
 const PAIR_PENS: [(&str, &str); PAIRS.len()] = [(ORANGE, "7 3"), (ORANGE, ""), (SKY, "")];
 
-/// The panel of the voltage that is held. Where U_AB comes as a pair alone, the reading is not drawn.
-pub fn voltage(history: &History) -> Panel<'_> {
-    let pair = pair_is_used(history, U_AB_PAIR).then(|| magnitude(history, U_AB_PAIR));
-    let scalar = (pair.is_none() || is_used(history, U_AB)).then(|| reading(history, U_AB));
-    Panel { axis: "voltage, V", unit: "V", readings: vec![U_AB], series: scalar.into_iter().chain(pair).collect() }
+/// What is brought, to a unit with a module of so many rated amperes.
+#[derive(Clone, Copy)]
+pub struct Brought<'a> {
+    pub seen: &'a Seen<'a>,
+    pub rated: u32,
 }
 
-/// The panels below it: other voltages, currents, and the angles of these, where there are any.
-pub fn others(history: &History) -> Vec<Panel<'_>> {
-    let panels = [quantities(history, "V", "3U0 and U2, V"), quantities(history, "A", "current, A"), angles(history)];
-    panels.into_iter().filter(|panel| !panel.series.is_empty()).collect()
-}
-
-/// All of one unit, but for U_AB: pairs first, so that the readings lie over them.
-fn quantities<'a>(history: &'a History, unit: &'static str, axis: &'static str) -> Panel<'a> {
-    let pairs = currents(history).filter(|at| READINGS[PAIRS[*at].parts[0]].unit == unit);
-    let readings: Vec<usize> =
-        (0..SCALARS).filter(|at| *at != U_AB && READINGS[*at].unit == unit && is_used(history, *at)).collect();
-    let series = pairs.map(|at| magnitude(history, at)).chain(readings.iter().map(|at| reading(history, *at))).collect();
-    Panel { axis, unit, readings, series }
-}
-
-/// How far each current that comes as a pair is ahead of U_AB.
-fn angles(history: &History) -> Panel<'_> {
-    let series = match pair_is_used(history, U_AB_PAIR) {
-        true => currents(history).map(|at| angle(history, at)).collect(),
-        false => Vec::new(),
-    };
-    Panel { axis: "ahead of U_AB, °", unit: DEGREES, readings: Vec::new(), series }
-}
-
-/// The pairs that are brought, but for U_AB's.
-fn currents(history: &History) -> impl Iterator<Item = usize> + '_ {
-    (0..PAIRS.len()).filter(move |at| *at != U_AB_PAIR && pair_is_used(history, *at))
-}
-
-fn is_used(history: &History, reading: usize) -> bool {
-    history.readings[reading].iter().any(|(_, sample)| sample.value != 0.0)
-}
-
-fn pair_is_used(history: &History, pair: usize) -> bool {
-    PAIRS[pair].parts.into_iter().any(|part| is_used(history, part))
-}
-
-fn reading(history: &History, at: usize) -> Series<'_> {
-    let (colour, dashes) = READING_PENS[at];
-    let signal = Cow::Borrowed(&history.readings[at][..]);
-    Series { label: READINGS[at].name.to_string(), colour, dashes, least: 0.0, signal }
-}
-
-fn magnitude(history: &History, at: usize) -> Series<'_> {
-    let (colour, dashes) = PAIR_PENS[at];
-    let signal = Cow::Owned(joined(parts(history, at), phasor::magnitude));
-    Series { label: format!("|{}|", PAIRS[at].name), colour, dashes, least: 0.0, signal }
-}
-
-fn angle(history: &History, at: usize) -> Series<'_> {
-    let (colour, dashes) = PAIR_PENS[at];
-    let ([re, im], [of_re, of_im]) = (parts(history, at), parts(history, U_AB_PAIR));
-    let signal = Cow::Owned(joined([re, im, of_re, of_im], |[re, im, of_re, of_im]| phasor::ahead([re, im], [of_re, of_im])));
-    Series { label: PAIRS[at].name.to_string(), colour, dashes, least: -180.0, signal }
-}
-
-fn parts(history: &History, pair: usize) -> [&Signal<Sample>; 2] {
-    PAIRS[pair].parts.map(|part| &history.readings[part])
-}
-
-/// What signals come to together, at each change of one of them.
-fn joined<const N: usize>(signals: [&Signal<Sample>; N], of: impl Fn([Sample; N]) -> Sample) -> Signal<Sample> {
-    let mut ticks: Vec<u32> = signals.iter().flat_map(|signal| signal.iter().map(|(tick, _)| *tick)).collect();
-    ticks.sort_unstable();
-    ticks.dedup();
-    let mut joined = Signal::new();
-    let mut places = [0; N];
-    for tick in ticks {
-        for (place, signal) in places.iter_mut().zip(signals) {
-            *place += usize::from(signal.get(*place + 1).is_some_and(|(next, _)| *next == tick));
-        }
-        keep(&mut joined, tick, of(std::array::from_fn(|at| signals[at][places[at]].1)));
+impl<'a> Brought<'a> {
+    /// The panel of the voltage that is held. Where U_AB comes as a pair alone, the reading is not drawn.
+    pub fn voltage(self) -> Panel<'a> {
+        let pair = self.pair_is_used(U_AB_PAIR).then(|| self.magnitude(U_AB_PAIR));
+        let scalar = (pair.is_none() || self.is_used(U_AB)).then(|| self.reading(U_AB));
+        Panel { axis: "voltage, V", unit: "V", readings: vec![U_AB], series: scalar.into_iter().chain(pair).collect() }
     }
-    joined
+
+    /// The panels below it: other voltages, currents, and the angles of these, where there are any.
+    pub fn others(self) -> Vec<Panel<'a>> {
+        let panels = [self.quantities("V", "3U0 and U2, V"), self.quantities("A", "current, A"), self.angles()];
+        panels.into_iter().filter(|panel| !panel.series.is_empty()).collect()
+    }
+
+    /// All of one unit, but for U_AB: pairs first, so that the readings lie over them.
+    fn quantities(self, unit: &'static str, axis: &'static str) -> Panel<'a> {
+        let pairs = self.currents().filter(|at| READINGS[PAIRS[*at].parts[0]].unit == unit);
+        let readings: Vec<usize> =
+            (0..SCALARS).filter(|at| *at != U_AB && READINGS[*at].unit == unit && self.is_used(*at)).collect();
+        let series = pairs.map(|at| self.magnitude(at)).chain(readings.iter().map(|at| self.reading(*at))).collect();
+        Panel { axis, unit, readings, series }
+    }
+
+    /// How far each current that comes as a pair is ahead of U_AB.
+    fn angles(self) -> Panel<'a> {
+        let series = match self.pair_is_used(U_AB_PAIR) {
+            true => self.currents().map(|at| self.angle(at)).collect(),
+            false => Vec::new(),
+        };
+        Panel { axis: "ahead of U_AB, °", unit: DEGREES, readings: Vec::new(), series }
+    }
+
+    /// The pairs that are brought, but for U_AB's.
+    fn currents(self) -> impl Iterator<Item = usize> + 'a {
+        (0..PAIRS.len()).filter(move |at| *at != U_AB_PAIR && self.pair_is_used(*at))
+    }
+
+    fn is_used(self, reading: usize) -> bool {
+        self.seen.readings[reading].iter().any(|(_, sample)| sample.value != 0.0)
+    }
+
+    fn pair_is_used(self, pair: usize) -> bool {
+        PAIRS[pair].parts.into_iter().any(|part| self.is_used(part))
+    }
+
+    fn reading(self, at: usize) -> Series<'a> {
+        let (colour, dashes) = READING_PENS[at];
+        let signal = Cow::Borrowed(self.seen.readings[at]);
+        let bounds = 0.0..=f64::from(most(at, self.rated));
+        Series { label: READINGS[at].name.to_string(), colour, dashes, bounds, signal }
+    }
+
+    fn magnitude(self, at: usize) -> Series<'a> {
+        let (colour, dashes) = PAIR_PENS[at];
+        let signal = Cow::Owned(self.joined(PAIRS[at].parts, phasor::magnitude));
+        Series { label: format!("|{}|", PAIRS[at].name), colour, dashes, bounds: 0.0..=f64::MAX, signal }
+    }
+
+    fn angle(self, at: usize) -> Series<'a> {
+        let (colour, dashes) = PAIR_PENS[at];
+        let ([re, im], [of_re, of_im]) = (PAIRS[at].parts, PAIRS[U_AB_PAIR].parts);
+        let ahead = |[re, im, of_re, of_im]: [Sample; 4]| phasor::ahead([re, im], [of_re, of_im]);
+        let signal = Cow::Owned(self.joined([re, im, of_re, of_im], ahead));
+        Series { label: PAIRS[at].name.to_string(), colour, dashes, bounds: -180.0..=180.0, signal }
+    }
+
+    /// What readings come to together, at each change of one of them. One that is missing is Invalid.
+    fn joined<const N: usize>(self, readings: [usize; N], of: impl Fn([Sample; N]) -> Sample) -> Signal<Sample> {
+        let signals = readings.map(|reading| self.seen.readings[reading]);
+        let mut joined = Signal::new();
+        let (mut places, mut next) = ([0; N], signals.iter().filter_map(|signal| Some(signal.first()?.0)).max());
+        while let Some(tick) = next {
+            let samples = std::array::from_fn(|at| self.counted(readings[at], signals[at][places[at]].1));
+            keep(&mut joined, tick, of(samples));
+            next = (0..N).filter_map(|at| Some(signals[at].get(places[at] + 1)?.0)).min();
+            for (place, signal) in places.iter_mut().zip(signals) {
+                *place += usize::from(signal.get(*place + 1).is_some_and(|(tick, _)| Some(*tick) == next));
+            }
+        }
+        joined
+    }
+
+    fn counted(self, reading: usize, sample: Sample) -> Sample {
+        match why(reading, sample, self.rated) {
+            Some(_) => Sample { quality: INVALID, ..sample },
+            None => sample,
+        }
+    }
 }

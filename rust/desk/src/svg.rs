@@ -2,6 +2,8 @@
 
 use std::fmt::Write;
 
+use crate::text::plain;
+
 /// The Okabe-Ito colours, which a colour-blind reader can tell apart.
 pub const BLACK: &str = "#000000";
 pub const ORANGE: &str = "#E69F00";
@@ -15,6 +17,8 @@ pub const PURPLE: &str = "#CC79A7";
 pub const INK: &str = "#222222";
 pub const FAINT: &str = "#D8D8D8";
 pub const GREY: &str = "#666666";
+pub const PALE: &str = "#ECECEC";
+pub const WHITE: &str = "#FFFFFF";
 
 const FONT: &str = "DejaVu Sans, Verdana, Arial, sans-serif";
 
@@ -64,6 +68,11 @@ impl Svg {
     fn add(&mut self, element: std::fmt::Arguments) {
         self.body.write_fmt(element).expect("a string takes all");
         self.body.push('\n');
+    }
+
+    /// Puts another below all that is here.
+    pub fn over(&mut self, other: Svg) {
+        self.body.insert_str(0, &other.body);
     }
 
     pub fn line(&mut self, from: (f64, f64), to: (f64, f64), pen: Pen) {
@@ -123,11 +132,6 @@ pub fn short(number: f64) -> String {
     text.strip_suffix(".0").map(str::to_string).unwrap_or(text)
 }
 
-/// About how wide a text is.
-pub fn text_width(words: &str, size: f64) -> f64 {
-    words.chars().count() as f64 * size * 0.62
-}
-
 fn place(area: Area) -> String {
     let Area { x, y, width, height } = area;
     format!(r#" x="{}" y="{}" width="{}" height="{}""#, short(x), short(y), short(width), short(height))
@@ -150,6 +154,5 @@ fn anchor(anchor: Anchor) -> &'static str {
 }
 
 fn escape(words: &str) -> String {
-    let words = words.replace('&', "&amp;").replace('<', "&lt;").replace('>', "&gt;").replace('"', "&quot;");
-    words.chars().filter(|c| !c.is_control()).collect()
+    plain(words).replace('&', "&amp;").replace('<', "&lt;").replace('>', "&gt;").replace('"', "&quot;")
 }

@@ -5,6 +5,7 @@ mod common;
 use common::check_texts;
 use common::runs::{told, Run, CONTINUOUS, GONE, IMPULSE, LOWER, RAISE};
 use desk::lanes::{self, Lane};
+use desk::seen::Seen;
 
 const COLUMNS: &str = "raise,lower,remote,remote_raise,remote_lower";
 /// The raise and the lower that act in local mode, and those of remote mode.
@@ -148,7 +149,8 @@ fn the_table_has_words_for_each_key_and_button() {
 #[test]
 fn the_picture_has_a_lane_for_each_that_is_ever_on() {
     for (sheet, continuous) in [(IMPULSE, false), (CONTINUOUS, true)] {
-        let lanes = lanes::contacts(&all(sheet).history, continuous);
+        let all = all(sheet);
+        let lanes = lanes::contacts(&Seen::whole(&all.history), continuous);
         let seen: Vec<_> = lanes.iter().map(|Lane { label, on, .. }| (label.as_str(), on.as_slice())).collect();
         let wanted = [
             ("in: breaker", [(1, 2000)].as_slice()),

@@ -2,15 +2,17 @@
 
 mod common;
 
-use common::{check_texts, defaults, file, Dice};
+use common::quiet::texts;
+use common::runs::Run;
+use common::{check_texts, defaults, Dice};
 use desk::band::bands;
 use desk::inputs::{with, SWITCHING};
 use desk::names::CONTINUOUS;
 use desk::outputs::{HIGH, LOW};
 use desk::picture::{picture, View};
-use desk::play::{Player, Source};
+use desk::play::Source;
+use desk::run;
 use desk::unit::start;
-use desk::{run, scenario, sheet};
 use library::{Brought, Sample, READINGS};
 
 /// A sheet in service with four different voltages to hold.
@@ -32,7 +34,7 @@ fn the_band_that_is_drawn_is_the_one_the_unit_goes_by() {
     let list = four_voltages();
     for keys in 0..8 {
         let contacts = with(0, 0, true) | keys << 16;
-        let band = &bands(&vec![(1, contacts)], 1, &list)[0];
+        let band = &bands(&[(1, contacts)], 1, &list)[0];
         for half_volts in 160..280 {
             let volts = half_volts as f32 / 2.0;
             let outputs = start(&list).expect("taken").tick(&tick(volts, contacts)).expect("a tick");
@@ -110,15 +112,21 @@ seconds,U_AB,3U0,U2,I_high,I_bus,I_coupler,breaker,automatic,U_supp2,BCD,oil_col
 
 #[test]
 fn a_crowded_picture_can_be_read() {
-    let list = sheet::read(&file(CROWDED_SHEET)).expect("a sheet").list;
-    let scenario = scenario::read(&file(CROWDED)).expect("a scenario");
-    let unit = start(&list).expect("taken");
-    let source = Source::Scenario(Player::with_drive(&scenario, &list));
-    let history = run::history(unit, source).expect("a run");
-    let text = picture(&history, &list, View::whole("crowded", history.ticks));
+    let text = drawn(CROWDED_SHEET, CROWDED);
     check_texts("crowded", &text);
     for words in ["U_supp1 100 V", "U_supp2 104 V", "I_set3 0.1 A", "trip: U2 over U_set4", "wrong BCD code", "in: oil_cold"] {
         assert!(text.contains(&format!(">{words}</text>")), "{words}");
+    }
+}
+
+/// All that lies between two ticks of it, be that little or much.
+#[test]
+fn each_part_of_a_crowded_picture_can_be_read() {
+    let run = Run::of(CROWDED_SHEET, CROWDED);
+    for from in (0..24_000).step_by(1700) {
+        for ticks in [1, 40, 900, 5000, 24_000] {
+            check_texts(&format!("{from} {ticks}"), &run.part(from, (from + ticks).min(24_000)));
+        }
     }
 }
 
@@ -134,12 +142,7 @@ seconds,U_AB_phasor,U2,I_high,I_bus,I_bus_phasor,I_coupler,I_coupler_phasor,brea
 ";
 
 fn drawn(sheet: &str, scenario: &str) -> String {
-    let list = sheet::read(&file(sheet)).expect("a sheet").list;
-    let scenario = scenario::read(&file(scenario)).expect("a scenario");
-    let source = Source::Scenario(Player::with_drive(&scenario, &list));
-    let unit = start(&list).expect("taken");
-    let history = run::history(unit, source).expect("a run");
-    picture(&history, &list, View::whole("drawn", history.ticks))
+    Run::of(sheet, scenario).picture()
 }
 
 #[test]
@@ -176,11 +179,25 @@ fn only_what_is_brought_is_drawn_of_the_pairs() {
     let both = drawn("XB1 = on\nXB4 = RX\n", &format!("seconds,U_AB,U_AB_phasor,breaker,automatic\n{rows}"));
     assert!(both.contains(">U_AB, measured<") && both.contains(">|U_AB|, measured<"));
     assert!(!both.contains("ahead of U_AB") && !both.contains(">current, A<"));
-    let current = drawn("XB1 = on\n", &format!("seconds,U_AB,I_bus_phasor,breaker,automatic\n{rows}"));
+    let current = drawn("XB1 = on\n", "seconds,U_AB,I_bus_phasor,breaker,automatic\n0,100,1@0,1,1\n1,end\n");
     assert!(current.contains(">U_AB<") && current.contains(">|I_bus|<") && current.contains(">current, A<"));
     assert!(!current.contains("|U_AB|") && !current.contains("ahead of U_AB"));
     let none = drawn("XB1 = on\nXB4 = RX\n", "seconds,U_AB,U_AB_phasor,I_bus_re,breaker\n0,100,0@0,0,1\n1,end\n");
     assert!(!none.contains('|') && !none.contains("ahead of U_AB"));
+}
+
+/// A part of a pair beyond its bound is missing to the unit, so the pair has no magnitude.
+#[test]
+fn a_pair_with_a_missing_part_does_not_stretch_the_axis() {
+    let with =
+        |amps: &str| drawn("XB1 = on\n", &format!("seconds,U_AB,I_bus_re,breaker\n0,100,0.5,1\n5,,{amps}\n9,,0.5\n10,end\n"));
+    let axis = |text: &str| -> Vec<String> {
+        let texts = texts(text).into_iter().skip_while(|words| *words != "voltage, V");
+        texts.take_while(|words| *words != "current, A").map(str::to_string).collect()
+    };
+    assert_eq!(axis(&with("41")), axis(&with("invalid")));
+    assert_ne!(axis(&with("39")), axis(&with("invalid")));
+    assert!(with("41").contains(">missing: I_bus_re</text>") && !with("39").contains(">missing: "));
 }
 
 /// The picture of a unit whose switching contact closes, or not, for a sheet with this regulation.

@@ -5,6 +5,7 @@ mod common;
 use common::check_texts;
 use common::runs::{told, Run, CONTINUOUS, GONE, IMPULSE, LOWER, RAISE};
 use desk::lanes::{self, Lane, Tip};
+use desk::seen::Seen;
 
 /// Raise at 1 s; in its move raise at 2 s and lower at 3 s.
 const BOTH: &str = "1,1\n1.3,0\n2,1\n2.3,0\n3,,1\n3.3,,0\n";
@@ -106,7 +107,8 @@ fn its_lanes_last_as_long_as_it_does_and_point_its_way() {
         Tip::Down => "down",
     };
     for sheet in [IMPULSE, CONTINUOUS] {
-        let lanes = lanes::remembered(&run(sheet, BOTH).history);
+        let run = run(sheet, BOTH);
+        let lanes = lanes::remembered(&Seen::whole(&run.history));
         let seen: Vec<_> =
             lanes.iter().map(|Lane { label, tip, on, .. }| (label.as_str(), mark(*tip), on.as_slice())).collect();
         assert_eq!(seen, [(UP, "up", [(401, 601)].as_slice()), (DOWN, "down", [(601, 902)].as_slice())], "{sheet}");

@@ -6,13 +6,14 @@ use std::fs;
 
 use common::{avr, between, check_texts, err, examples, out, Folder};
 
-const STORIES: [&str; 18] = [
+const STORIES: [&str; 19] = [
     "acceleration",
     "band-edge",
     "breaker-rating",
     "compensation",
     "continuous-in-band",
     "continuous-long",
+    "day",
     "end-stop",
     "fast-move",
     "long-feeder",
@@ -95,6 +96,7 @@ fn each_story_is_told() {
         ("long-feeder", vec!["20.000       4000  out  RAISE command", "50.000      10000  out  RAISE command", TURNED]),
         ("continuous-in-band", vec!["30.000       6000  out  RAISE command", "out  tap 10", "out  tap 11", IN_BAND]),
         ("continuous-long", vec!["10.000       2000  out  RAISE command", LONG, RESET, AFTER_T1]),
+        ("day", vec![AFTER_THE_OIL, MISSING, "external raise block gone", "out  worn: operations have reached N_max"]),
     ] {
         let table = read(story, "table.txt");
         told.iter().for_each(|words| assert!(table.contains(words), "{story}: {words}\n{table}"));
@@ -154,6 +156,23 @@ const AFTER_T1: &str = "\
                         out  drive asked
      46.000       9200  in   U_AB 99.9 V
                         out  raise command off
+";
+
+/// Low from 06:30 on, and raised T1 after the oil is no longer cold, at 06:50.
+const AFTER_THE_OIL: &str = "\
+  24600.005    4920001  in   oil not cold
+                        out  automatic free
+                        out  manual free
+                        out  raise free
+                        out  lower free
+  24720.000    4944000  out  RAISE command
+";
+
+/// From 11:40 to 11:46.
+const MISSING: &str = "\
+  42000.005    8400001  in   U_AB invalid
+                        out  automatic blocked
+  42360.005    8472001  in   U_AB 100.8 V
 ";
 
 /// The same current, turned from 30 degrees behind the voltage to 30 ahead of it.

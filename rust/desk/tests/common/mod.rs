@@ -2,6 +2,7 @@
 #![allow(dead_code)]
 
 pub mod json;
+pub mod quiet;
 pub mod runs;
 
 use std::fs;
@@ -15,6 +16,7 @@ use desk::recording::Recording;
 use desk::run::Window;
 use desk::show;
 use desk::table::{Form, Only, Wanted};
+use desk::text::text_width;
 use library::Brought;
 
 /// All of a scenario's run, for people.
@@ -130,12 +132,17 @@ struct Place {
     words: String,
 }
 
+/// Words as a reader sees them.
+fn plain_text(words: &str) -> String {
+    words.replace("&lt;", "<").replace("&gt;", ">").replace("&quot;", "\"").replace("&amp;", "&")
+}
+
 /// The box of a `<text>` line.
 fn text_box(line: &str) -> Place {
     let number = |name: &str| -> f64 { between(line, &format!(" {name}=\""), "\"").parse().expect("a number") };
     let (x, y, size) = (number("x"), number("y"), number("font-size"));
     let words = between(line, ">", "<").to_string();
-    let width = words.chars().count() as f64 * size * 0.55;
+    let width = text_width(&plain_text(&words), size);
     let left = match between(line, "text-anchor=\"", "\"") {
         "start" => x,
         "middle" => x - width / 2.0,
@@ -147,9 +154,11 @@ fn text_box(line: &str) -> Place {
 /// No text of a picture lies on another or outside.
 pub fn check_texts(name: &str, picture: &str) {
     let places: Vec<Place> = picture.lines().filter(|line| line.starts_with("<text")).map(text_box).collect();
+    let height: f64 = between(picture, " height=\"", "\"").parse().expect("a number");
     assert!(places.len() > 20, "{name}");
     for (at, a) in places.iter().enumerate() {
-        assert!(a.left >= 0.0 && a.right <= 1120.0, "{name}: {} is outside", a.words);
+        let inside = a.left >= 0.0 && a.right <= 1120.0 && a.top >= 0.0 && a.bottom <= height;
+        assert!(inside, "{name}: {} is outside", a.words);
         for b in &places[at + 1..] {
             let apart = a.right <= b.left || b.right <= a.left || a.bottom <= b.top || b.bottom <= a.top;
             assert!(apart, "{name}: {} lies on {}", a.words, b.words);

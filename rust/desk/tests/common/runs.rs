@@ -1,4 +1,4 @@
-//! Ten seconds of buttons with a drive that answers: what the table and the picture tell of them.
+//! Runs, ten seconds of buttons with a drive that answers above all: what the table and the picture tell of them.
 
 use desk::picture::{picture, View};
 use desk::play::{Player, Source};
@@ -26,10 +26,14 @@ pub struct Run {
 impl Run {
     /// These columns, off at first, and their rows.
     pub fn new(sheet: &str, columns: &str, rows: &str) -> Run {
-        let list = sheet::read(&file(sheet)).expect("a sheet").list;
         let off = "0,".repeat(columns.split(',').count());
-        let text = format!("seconds,{columns},U_AB,breaker,drive,drive_tap\n0,{off}100,1,ok,9\n{rows}10,end\n");
-        let scenario = scenario::read(&file(&text)).expect("a scenario");
+        Run::of(sheet, &format!("seconds,{columns},U_AB,breaker,drive,drive_tap\n0,{off}100,1,ok,9\n{rows}10,end\n"))
+    }
+
+    /// Any scenario.
+    pub fn of(sheet: &str, scenario: &str) -> Run {
+        let list = sheet::read(&file(sheet)).expect("a sheet").list;
+        let scenario = scenario::read(&file(scenario)).expect("a scenario");
         let source = Source::Scenario(Player::with_drive(&scenario, &list));
         let unit = start(&list).expect("taken");
         let history = run::history(unit, source).expect("a run");
@@ -41,7 +45,12 @@ impl Run {
     }
 
     pub fn picture(&self) -> String {
-        picture(&self.history, &self.list, View::whole("buttons", self.history.ticks))
+        self.part(0, self.history.ticks)
+    }
+
+    /// The picture between two ticks.
+    pub fn part(&self, from: u32, to: u32) -> String {
+        picture(&self.history, &self.list, View { title: "buttons", from, to })
     }
 
     /// The labels of the picture from the first contact's on, as many as these.
