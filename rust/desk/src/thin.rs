@@ -2,6 +2,7 @@
 
 use library::Sample;
 
+use crate::cells::LONGEST;
 use crate::missing::{self, Why};
 use crate::run::{Signal, Window};
 
@@ -32,10 +33,18 @@ impl Thin {
         } else if last > 0 && signal[last].0 <= window.from {
             signal.drain(..last);
         } else if signal.len() >= self.next {
-            *signal = thinned(reading, signal, rated, self.width);
-            self.width = self.width.saturating_mul(2);
-            self.next = MANY.max(2 * signal.len());
+            self.thin(reading, signal, rated);
         }
+    }
+
+    /// Thins a signal to half of what is many, in wider stretches where these do not do.
+    fn thin(&mut self, reading: usize, signal: &mut Signal<Sample>, rated: u32) {
+        *signal = thinned(reading, signal, rated, self.width);
+        while signal.len() > MANY / 2 && self.width < LONGEST {
+            self.width *= 2;
+            *signal = thinned(reading, signal, rated, self.width);
+        }
+        self.next = MANY.max(2 * signal.len());
     }
 }
 
