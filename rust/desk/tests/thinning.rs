@@ -12,7 +12,7 @@ use library::{Brought, Sample};
 
 const TICKS: u32 = 1_500_000;
 /// A stretch that is wider than any that is thinned to one.
-const STRETCH: u32 = 1 << 15;
+const STRETCH: u32 = 1 << 10;
 
 /// A voltage that swings slowly, with noise.
 fn volts(dice: &mut Dice, tick: u32) -> f32 {
