@@ -1,7 +1,6 @@
 //! The head of a picture: its title, the part of the run that it shows, and the settings that it hangs on.
 
-use crate::lanes::COUNTED;
-use crate::names::{self, BREAKER_RATING, COMPENSATION, CT_RATING, TABLE};
+use crate::names::{self, BREAKER_RATING, COMPENSATION, CT_RATING, TABLE, WEAR};
 use crate::scale::TimeScale;
 use crate::sheet::{is_continuous, ALONG_RX, BY_U_COMP};
 use crate::svg::{Anchor, Style, Svg, GREY, INK};
@@ -63,7 +62,7 @@ impl Head<'_> {
             true => &["XB2", "U_supp1", "dU_set", "T1", "T3", "T4", "T8"],
             false => &["U_supp1", "dU_set", "T1", "T2", "T3", "T4", "T5", "T6", "T7", "T8"],
         };
-        let counted: &[&str] = if list[COUNTED] == 1 { &["N_max"] } else { &[] };
+        let counted: &[&str] = if list[WEAR] == 1 { &["N_max"] } else { &[] };
         usual.iter().chain(counted).chain(compensation).map(|name| self.setting(name)).collect()
     }
 

@@ -7,16 +7,13 @@ use library::ORGANS;
 use crate::boxes::Numbers;
 use crate::drive::Way;
 use crate::inputs::{is_on, CONTACTS, READINGS, SWITCHING};
-use crate::names::at;
+use crate::names::WEAR;
 use crate::outputs::{
     short, BLOCKS, FAULTS, HIGH, LOW, LOWER, OPERATIONS, RAISE, RANGE_ERROR, SHORT, SUPPLY_TRIP, TAP, TRIPS, WORN, WRONG_CODE,
 };
 use crate::press;
 use crate::seen::{spans, Changes, Seen};
 use crate::svg::{BLACK, BLUE, GREEN, ORANGE, PURPLE, SKY, VERMILLION, YELLOW};
-
-/// The slot that lets the unit count operations.
-pub const COUNTED: usize = at("XB18");
 
 /// A mark at the start of a bar.
 #[derive(Clone, Copy, PartialEq)]
@@ -79,7 +76,7 @@ fn some_or_one(seen: &Seen, continuous: bool, fields: RangeInclusive<usize>, kin
 pub fn numbers<'a>(seen: &Seen<'a>, list: &[u32]) -> Vec<Numbers<'a>> {
     let tap = Numbers { label: SHORT[TAP], changes: seen.outputs[TAP], zero_is_none: true };
     let operations = Numbers { label: SHORT[OPERATIONS], changes: seen.outputs[OPERATIONS], zero_is_none: false };
-    [Some(tap), (list[COUNTED] == 1).then_some(operations)].into_iter().flatten().collect()
+    [Some(tap), (list[WEAR] == 1).then_some(operations)].into_iter().flatten().collect()
 }
 
 /// The tick on which the operations reach N_max.

@@ -24,11 +24,16 @@ fn cut(words: &str, most: usize) -> String {
 }
 
 fn plain(letter: char) -> String {
-    let turns = matches!(letter, '\u{200e}' | '\u{200f}' | '\u{2028}'..='\u{202e}' | '\u{2066}'..='\u{2069}' | '\u{feff}');
-    match letter.is_control() || turns {
+    match acts(letter) {
         true => letter.escape_unicode().to_string(),
         false => letter.to_string(),
     }
+}
+
+/// Whether a character acts on what shows it: it controls a terminal, ends a line, or turns the writing around.
+pub fn acts(letter: char) -> bool {
+    let turns = matches!(letter, '\u{200e}' | '\u{200f}' | '\u{2028}'..='\u{202e}' | '\u{2066}'..='\u{2069}' | '\u{feff}');
+    letter.is_control() || turns
 }
 
 /// A count with its noun, `1 setting` and `2 settings`.

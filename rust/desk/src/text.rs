@@ -1,5 +1,7 @@
 //! Texts in a picture: how wide they are, cut to a room, and wrapped.
 
+use crate::shown;
+
 /// The widths of the letters from the space to `~` in DejaVu Sans, in thousandths of the text's size.
 #[rustfmt::skip]
 const WIDTHS: [u16; 95] = [
@@ -25,12 +27,10 @@ pub fn text_width(words: &str, size: f64) -> f64 {
     words.chars().map(|letter| f64::from(letter_width(letter))).sum::<f64>() * size / 1000.0
 }
 
-/// Without characters that a file of text cannot hold, or that turn the writing around; a line's end is a space.
+/// Without characters that act on what shows them, or that a picture's file cannot hold; a line's end is a space.
 pub fn plain(words: &str) -> String {
     let spaced = words.chars().map(|letter| if letter.is_whitespace() { ' ' } else { letter });
-    let turns = |letter: char| matches!(letter, '\u{200e}'..='\u{200f}' | '\u{202a}'..='\u{202e}' | '\u{2066}'..='\u{2069}');
-    let is_none = |letter: char| letter.is_control() || matches!(letter, '\u{fffe}'..='\u{ffff}');
-    spaced.filter(|letter| !turns(*letter) && !is_none(*letter)).collect()
+    spaced.filter(|letter| !shown::acts(*letter) && !matches!(letter, '\u{fffe}'..='\u{ffff}')).collect()
 }
 
 /// Room for a line of text of this size.

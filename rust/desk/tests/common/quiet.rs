@@ -28,7 +28,7 @@ pub fn pulses(starts: impl IntoIterator<Item = u32>, ticks: u32, on: u32) -> Sig
 /// A sheet that counts operations, or not.
 pub fn sheet(counts: bool) -> Vec<u32> {
     let mut list = defaults(0);
-    list[desk::lanes::COUNTED] = u32::from(counts);
+    list[desk::names::WEAR] = u32::from(counts);
     list
 }
 
