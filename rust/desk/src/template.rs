@@ -23,8 +23,8 @@ pub fn template(module: u32) -> String {
 fn intro(module: u32) -> String {
     let (amps, other) = (rated_amps(module), rated_amps(1 - module));
     format!(
-        "# A setting sheet for a {amps} A module; for the other one take `avr sheet template --module {other}`.\n\
-         # The other settings have their defaults. Keep I_nom and the lines that you change; one left out has its default.\n\
+        "# A setting sheet of defaults for a {amps} A module; for the other one: `avr sheet template --module {other}`.\n\
+         # Keep I_nom and the lines that you change; one left out has its default.\n\
          # XB1 = on puts the unit in service. `avr sheet check FILE` says whether the unit takes the sheet.\n\n"
     )
 }
