@@ -72,21 +72,24 @@ fn float_text(value: f32) -> String {
 
 /// A contact or key.
 pub fn contact(text: &str) -> Result<bool, String> {
-    match text {
+    match text.to_ascii_lowercase().as_str() {
         "1" | "on" | "closed" => Ok(true),
         "0" | "off" | "open" => Ok(false),
         _ => Err(format!("`{}` is no contact: 1 or 0, on or off, closed or open", shown::text(text))),
     }
 }
 
+/// The highest number on the BCD lines, of which three are for the tens.
+const MOST_OF_LINES: u8 = 79;
+
 /// `24` is tap 24 on the lines, `0x1a` the lines themselves.
 pub fn bcd(text: &str) -> Result<u8, String> {
-    let wrong = || format!("`{}` is no BCD code: a tap from 0 to 99, or lines from 0x00 to 0xff", shown::text(text));
+    let wrong = || format!("`{}` is no BCD code: a tap from 0 to 79, or lines from 0x00 to 0xff", shown::text(text));
     if let Some(hex) = text.strip_prefix("0x") {
         return u8::from_str_radix(hex, 16).map_err(|_| wrong());
     }
     match text.parse::<u8>() {
-        Ok(tap) if tap < 100 => Ok(lines_of(tap)),
+        Ok(tap) if tap <= MOST_OF_LINES => Ok(lines_of(tap)),
         _ => Err(wrong()),
     }
 }
@@ -98,9 +101,9 @@ pub fn lines_of(tap: u8) -> u8 {
 
 pub fn bcd_text(lines: u8) -> String {
     let (tens, units) = (lines >> 4, lines & 15);
-    match tens < 10 && units < 10 {
-        true => (tens * 10 + units).to_string(),
-        false => format!("0x{lines:02x}"),
+    match tens * 10 + units {
+        number if units < 10 && number <= MOST_OF_LINES => number.to_string(),
+        _ => format!("0x{lines:02x}"),
     }
 }
 

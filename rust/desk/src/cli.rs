@@ -1,21 +1,22 @@
 //! The command line.
 
 use std::ffi::OsString;
-use std::fs;
 use std::io::{self, ErrorKind, Write};
-use std::path::Path;
 use std::process::ExitCode;
 
 use crate::commands::{self, Failure, Said};
 use crate::file::{why, Errors};
 use crate::help;
 use crate::shown;
+use crate::standard;
 use crate::target;
 use crate::words::{self, Takes, Words};
 
 /// Exit statuses.
 const BAD_FILE: u8 = 1;
 const BAD_USAGE: u8 = 2;
+
+const NO_OUTPUT: &str = "standard output is closed, or cannot be written";
 
 /// A subcommand: its words, its help, what it takes after its words, and what it does.
 struct Command {
@@ -99,6 +100,7 @@ fn general(words: &[String]) -> ExitCode {
     let words: Vec<&str> = words.iter().map(String::as_str).collect();
     match words[..] {
         ["--help" | "-h" | "help"] => print(help::ALL.as_bytes()),
+        ["--help" | "-h" | "help", ..] => dispatch(&asked_for_help(&words[1..])),
         ["--version" | "-V"] => print(concat!("avr ", env!("CARGO_PKG_VERSION"), "\n").as_bytes()),
         ["sheet", "--help" | "-h"] => print(help::SHEET.as_bytes()),
         ["scenario", "--help" | "-h"] => print(help::SCENARIO.as_bytes()),
@@ -109,6 +111,11 @@ fn general(words: &[String]) -> ExitCode {
         }
         [word, ..] => misuse(&format!("no subcommand is called `{}`", shown::text(word))),
     }
+}
+
+/// `help run` is `run --help`.
+fn asked_for_help(words: &[&str]) -> Vec<String> {
+    words.iter().copied().chain(["--help"]).map(str::to_string).collect()
 }
 
 /// The subcommands of a group, `scenario write, or scenario show`.
@@ -125,8 +132,8 @@ fn perform(command: &Command, words: &[String]) -> ExitCode {
         Ok(words) => words,
         Err(wrong) => return misuse_of(command, &wrong),
     };
-    let said = match stdout_is_closed() {
-        true => Err(Failure::Files(vec!["standard output is closed".to_string()])),
+    let said = match standard::output_is_closed() {
+        true => Err(Failure::Files(vec![NO_OUTPUT.to_string()])),
         false => (command.act)(&words),
     };
     match said {
@@ -173,18 +180,9 @@ fn misuse_of(command: &Command, words: &str) -> ExitCode {
 fn print(bytes: &[u8]) -> ExitCode {
     let mut out = io::stdout().lock();
     match out.write_all(bytes).and_then(|()| out.flush()) {
-        _ if stdout_is_closed() => fail(&vec!["standard output is closed".to_string()]),
+        _ if standard::output_is_closed() => fail(&vec![NO_OUTPUT.to_string()]),
         Ok(()) => ExitCode::SUCCESS,
         Err(error) if error.kind() == ErrorKind::BrokenPipe => ExitCode::SUCCESS,
-        Err(error) => fail(&vec![format!("standard output: {}", why(&error))]),
+        Err(error) => fail(&vec![format!("{}: {}", standard::OUTPUT, why(&error))]),
     }
-}
-
-/// Whether there was no standard output as the tool started. Its runtime then puts /dev/null there, open both ways, which no
-/// redirection for writing does.
-fn stdout_is_closed() -> bool {
-    let null = fs::read_link("/proc/self/fd/1").is_ok_and(|path| path == Path::new("/dev/null"));
-    let info = fs::read_to_string("/proc/self/fdinfo/1").unwrap_or_default();
-    let flags = info.lines().find_map(|line| line.strip_prefix("flags:")).map(str::trim);
-    null && flags.and_then(|flags| u32::from_str_radix(flags, 8).ok()).is_some_and(|flags| flags & 3 == 2)
 }

@@ -86,9 +86,11 @@ pub struct Seen {
     pub command: Option<Way>,
     pub trip: bool,
     pub reset: bool,
+    /// The scenario's own contact of the drive's supply.
+    pub supply_off: bool,
 }
 
-/// The drive's supply: off a moment after the unit's supply trip, and on again with the scenario's reset.
+/// The drive's supply: off while the scenario says so, and a moment after the unit's supply trip until the scenario's reset.
 #[derive(Default)]
 pub struct Supply {
     pub off: bool,
@@ -106,7 +108,7 @@ impl Supply {
             Some(ticks) => Some(ticks.saturating_add(1)),
             None => seen.trip.then_some(1),
         };
-        self.off = self.tripped.is_some_and(|ticks| ticks >= BREAKER);
+        self.off = seen.supply_off || self.tripped.is_some_and(|ticks| ticks >= BREAKER);
     }
 }
 

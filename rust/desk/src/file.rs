@@ -4,6 +4,7 @@ use std::fs;
 use std::io::{self, Read};
 
 use crate::shown;
+use crate::standard;
 
 /// What is wrong, a line each.
 pub type Errors = Vec<String>;
@@ -77,6 +78,7 @@ impl File {
 /// A file or standard input, to be read from its beginning.
 pub fn open(path: &str) -> io::Result<Box<dyn Read>> {
     match path {
+        STANDARD if standard::input_is_closed() => Err(io::Error::other("is closed, or cannot be read")),
         STANDARD => Ok(Box::new(io::stdin().lock())),
         _ => Ok(Box::new(fs::File::open(path)?)),
     }
@@ -85,7 +87,7 @@ pub fn open(path: &str) -> io::Result<Box<dyn Read>> {
 /// What a message calls a file that is read.
 pub fn input_name(path: &str) -> String {
     match path {
-        STANDARD => "standard input".to_string(),
+        STANDARD => standard::INPUT.to_string(),
         _ => shown::name(path),
     }
 }

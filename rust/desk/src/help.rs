@@ -24,7 +24,7 @@ A run has at most 100000 s, 20000000 ticks; of a sheet at most 1 MiB is read, of
 
 Exit status: 0 done, 1 a file is bad or a sheet is refused, 2 the command line is wrong. On an error no file is changed: names are
 looked at before a run, and files are written in place when all is made and printed. Only a RECORDING is written as it is made: if
-its disk fills up, one that stood there is lost, which the message says.
+its disk fills up, one that stood there is lost, which the message says, and one that is broken off is refused afterwards.
 ";
 
 pub const SHEET: &str = "\
@@ -110,6 +110,7 @@ comment line. A column that is not there is 0.
   readings        U_AB 3U0 U2 (V), I_high I_bus I_coupler (A): `98.2`, `98.2 held`, `invalid`. The unit counts the nearest
                   mV or mA, a half going up. A reading is missing if it is invalid, no number (nan, inf), below 0, or above
                   200 V or 40 times I_nom: 40 A with I_nom = 1 A, 200 A with 5 A. Table, picture and summary tell which.
+                  `bits 0x7fc00000` is a float by its bits, as `scenario show` has one that is no number.
   pairs           U_AB_re U_AB_im (V), I_bus_re I_bus_im I_coupler_re I_coupler_im (A): real and imaginary part, for XB4 = RX;
                   as readings, and also below 0, as far: `-0.4`. In place of two parts U_AB_phasor, I_bus_phasor or
                   I_coupler_phasor, magnitude and degrees: `0.8@-30`, `0.8@-30 held`, `invalid`. A current at -30 lags a U_AB
@@ -121,8 +122,8 @@ comment line. A column that is not there is 0.
                   mode; `local` is another key, of local drive: the drive is worked at its own place. A press of the pair that
                   acts, made while the drive runs, is remembered, the latest one, and carried out at rest unless it is blocked
                   then. A fault, automatic, local drive, out and a change between local and remote mode drop it. A button that
-                  is held as the mode changes is no press.
-  BCD             the tap on the lines, `24`, or the lines themselves, `0x1a`
+                  is held as the mode changes is no press. `bit24` to `bit31` are contacts that the unit ignores.
+  BCD             the tap on the lines, `24`, up to 79, or the lines themselves, `0x1a`
   sensor          0 to 255
   drive           the simulated drive: ok, does-not-start, runs-on (a move does not end), self-raise, self-lower (closes once
                   by itself). It gives the switching contact, and BCD, sensor, end_up and end_down where these have no column.
@@ -145,7 +146,8 @@ up a tap that is not done. Of such a drive
   self-raise      and self-lower take one tap by themselves; no fault tells of it
   drive_sliding   are taps at which it does not stop, but goes on to the next
 
-The drive's supply goes off 0.1 s after the unit's supply trip, which ends a move, and is on again with `reset`.
+The drive's supply goes off 0.1 s after the unit's supply trip, and is on again with `reset`. It is off, too, while `supply_off` is
+on. That ends a move.
 ";
 
 pub const SCENARIO_SHOW: &str = "\
@@ -163,10 +165,11 @@ Runs the unit with the sheet (text or SHEET) over a scenario (CSV) or a RECORDIN
 
   --table FILE    write the table of what changed there, and not on standard output
   --format FORM   the table as text, for people; as csv, a row for each change; or as json, with the summary (text)
-  --only SIDE     tell inputs or outputs alone, or all (all)
+  --only SIDE     tell inputs alone, or outputs with what the unit remembers, or all (all)
   --svg FILE      write the picture there
   --title TEXT    the picture's title; else the name of the scenario's file
-  --from SECONDS  table and picture begin there; the unit is run from the beginning all the same (0)
+  --from SECONDS  table and picture begin there, the table with what stands then, at the times when it began; the unit is run
+                  from the beginning all the same (0)
   --to SECONDS    and end there (the end)
 
 Tick n is told at n times 0.005 s. What a row brings at 10 s is seen first on the tick after, at 10.005 s; a delay of 20 s that
@@ -180,5 +183,5 @@ readings that were missing and why. The text ends with it and the JSON has it; w
 error.
 
 The table tells pairs by their parts, the picture by their magnitudes, |U_AB|, and by the degrees that a current is ahead of U_AB.
-A remark on standard error says where no column gives U_AB, or XB4 = RX needs a pair that the scenario does not give.
+A remark on standard error says where the sheet looks at something that no column gives, or is out of service.
 ";

@@ -76,6 +76,7 @@ pub const SUPPLY_OFF: u32 = bit("supply_off");
 pub const END_UP: u32 = bit("end_up");
 pub const END_DOWN: u32 = bit("end_down");
 pub const RESET: u32 = bit("reset");
+pub const OUT: u32 = bit("out");
 pub const U_SUPP2: u32 = bit("U_supp2");
 
 /// By bit; the unit ignores those after `remote_lower`. `local` is local drive, and `remote` off is local mode.

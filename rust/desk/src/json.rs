@@ -3,6 +3,8 @@
 use crate::summary::{Spell, Summary};
 use crate::table::{seconds, Change};
 
+const NULL: &str = "null";
+
 /// The changes of a run, and what it comes to.
 pub fn document(changes: &[Change], summary: &Summary) -> String {
     let changes: Vec<String> = changes.iter().map(change).collect();
@@ -10,7 +12,7 @@ pub fn document(changes: &[Change], summary: &Summary) -> String {
 }
 
 fn change(Change { tick, side, name, value, words }: &Change) -> String {
-    let (name, value, words) = (string(name), string(value), string(words));
+    let (name, value, words) = (string(name), number_or_string(value), string(words));
     let seconds = seconds(*tick);
     format!(
         r#"{{"seconds": {seconds}, "tick": {tick}, "side": "{side}", "name": {name}, "value": {value}, "change": {words}}}"#
@@ -23,7 +25,8 @@ fn of(summary: &Summary) -> String {
         field("seconds", seconds(summary.ticks)),
         field("raises", summary.raises.to_string()),
         field("lowers", summary.lowers.to_string()),
-        field("operations", summary.operations.map_or("null".to_string(), |(first, last)| format!("[{first}, {last}]"))),
+        field("operations", summary.operations.map_or(NULL.to_string(), |(done, _)| done.to_string())),
+        field("count", summary.operations.map_or(NULL.to_string(), |(_, count)| count.to_string())),
         field("worn", summary.worn.to_string()),
         field("low_seconds", seconds(summary.low.ticks)),
         field("high_seconds", seconds(summary.high.ticks)),
@@ -37,10 +40,22 @@ fn field(name: &str, value: String) -> String {
 }
 
 fn list(spells: &[Spell]) -> String {
-    let one = |Spell { name, times, ticks }: &Spell| {
-        format!(r#"{{"name": {}, "times": {times}, "seconds": {}}}"#, string(name), seconds(*ticks))
+    let one = |Spell { name, why, times, ticks }: &Spell| {
+        let count = match why {
+            Some(why) => field("why", string(why)),
+            None => field("times", times.to_string()),
+        };
+        format!(r#"{{"name": {}, {count}, "seconds": {}}}"#, string(name), seconds(*ticks))
     };
     format!("[{}]", spells.iter().map(one).collect::<Vec<_>>().join(", "))
+}
+
+/// A number as one, and a text in quotes. What Rust reads as a number without end or as none is text.
+fn number_or_string(text: &str) -> String {
+    match text.parse::<f64>() {
+        Ok(number) if number.is_finite() => text.to_string(),
+        _ => string(text),
+    }
 }
 
 /// A text in quotes.

@@ -183,7 +183,8 @@ fn seen(before: &[u32; FIELDS], brought: &Brought) -> Seen {
         (_, 1) => Some(Way::Lower),
         _ => None,
     };
-    Seen { command, trip: before[SUPPLY_TRIP] == 1, reset: is_on(brought.contacts, RESET) }
+    let on = |bit| is_on(brought.contacts, bit);
+    Seen { command, trip: before[SUPPLY_TRIP] == 1, reset: on(RESET), supply_off: on(SUPPLY_OFF) }
 }
 
 /// The voltage with what the taps add, to the mV.

@@ -8,6 +8,7 @@ use library::{Brought, Sample};
 use crate::cells::{self, LONGEST};
 use crate::file::{self, Errors, STANDARD};
 use crate::inputs::READINGS;
+use crate::stream::UNFINISHED;
 
 /// Bytes of a reading: its quality and its float.
 pub const READING_BYTES: usize = 5;
@@ -85,6 +86,9 @@ impl<'a> Recording<'a> {
             BYTES if self.read == LONGEST => return Err(self.too_long()),
             BYTES => (),
             _ => return Err(self.cut_short(u64::from(self.read), got as u64)),
+        }
+        if self.read == 0 && bytes[0] == UNFINISHED {
+            return Err(self.says("its writing was broken off: write it again"));
         }
         self.read += 1;
         tick(&bytes).map(Some).map_err(|words| self.says(&format!("tick {}: {words}", self.read)))

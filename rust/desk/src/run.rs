@@ -5,6 +5,7 @@ use library::{Brought, Sample, FIELDS, READINGS};
 use crate::cells::LONGEST;
 use crate::drive::Way;
 use crate::file::Errors;
+use crate::inputs::is_on;
 use crate::missing::Missing;
 use crate::play::Source;
 use crate::progress::Progress;
@@ -14,7 +15,7 @@ use crate::unit::Unit;
 /// A signal: its value from a tick on, at each change. The first entry is tick 1.
 pub type Signal<T> = Vec<(u32, T)>;
 
-/// The ticks that somebody looks at: those after `from`, up to `to`.
+/// The ticks that somebody looks at: from one to another, both included.
 #[derive(Clone, Copy, Debug, PartialEq)]
 pub struct Window {
     pub from: u32,
@@ -25,7 +26,7 @@ impl Window {
     pub const WHOLE: Window = Window { from: 0, to: LONGEST };
 
     pub fn holds(self, tick: u32) -> bool {
-        self.from < tick && tick <= self.to
+        self.from <= tick && tick <= self.to
     }
 }
 
@@ -39,6 +40,8 @@ pub struct History {
     pub missing: Signal<u32>,
     pub reasons: Missing,
     pub contacts: Signal<u32>,
+    pub bcd: Signal<u8>,
+    pub sensor: Signal<u8>,
     pub remembered: Signal<Option<Way>>,
     pub outputs: [Signal<u32>; FIELDS],
 }
@@ -81,6 +84,8 @@ impl History {
         }
         keep(&mut self.missing, tick, self.reasons.count(&brought.readings, unit.rated));
         keep(&mut self.contacts, tick, brought.contacts);
+        keep(&mut self.bcd, tick, brought.bcd);
+        keep(&mut self.sensor, tick, brought.sensor);
         keep(&mut self.remembered, tick, unit.remembered());
         for (signal, output) in self.outputs.iter_mut().zip(outputs) {
             keep(signal, tick, *output);
@@ -95,10 +100,19 @@ impl History {
 
     /// What a reading was on a tick.
     pub fn reading(&self, at: usize, tick: u32) -> Sample {
-        let signal = &self.readings[at];
-        let after = signal.partition_point(|(from, _)| *from <= tick);
-        signal[after.saturating_sub(1)].1
+        standing(&self.readings[at], tick).unwrap_or_default()
     }
+
+    /// Whether a contact was on on a tick; none was before the first.
+    pub fn contact(&self, bit: u32, tick: u32) -> bool {
+        standing(&self.contacts, tick).is_some_and(|contacts| is_on(contacts, bit))
+    }
+}
+
+/// The value of a signal on a tick.
+fn standing<T: Copy>(signal: &Signal<T>, tick: u32) -> Option<T> {
+    let after = signal.partition_point(|(from, _)| *from <= tick);
+    after.checked_sub(1).map(|at| signal[at].1)
 }
 
 /// Notes a signal's value on a tick, if it is another than before.

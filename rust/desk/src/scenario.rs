@@ -61,7 +61,12 @@ fn is_idle(text: &str) -> bool {
 }
 
 fn split(text: &str) -> Vec<&str> {
-    text.split(',').map(|cell| cell.trim().trim_matches('"').trim()).collect()
+    text.split(',').map(|cell| unquoted(cell.trim())).collect()
+}
+
+/// A cell without the quotes around it.
+fn unquoted(cell: &str) -> &str {
+    cell.strip_prefix('"').and_then(|cell| cell.strip_suffix('"')).unwrap_or(cell).trim()
 }
 
 impl Reader {

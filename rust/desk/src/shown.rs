@@ -11,7 +11,10 @@ pub fn text(words: &str) -> String {
 
 /// The name of a file, likewise.
 pub fn name(path: &str) -> String {
-    cut(path, MOST_OF_NAME)
+    match path {
+        "" => "(an empty name)".to_string(),
+        _ => cut(path, MOST_OF_NAME),
+    }
 }
 
 fn cut(words: &str, most: usize) -> String {

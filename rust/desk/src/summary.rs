@@ -3,8 +3,8 @@
 use library::ORGANS;
 
 use crate::cells::seconds_text;
-use crate::inputs::READINGS;
-use crate::missing;
+use crate::inputs::{OUT, READINGS};
+use crate::missing::{self, Why};
 use crate::names::{rated_amps, MODULE, WEAR};
 use crate::outputs::{
     short, BLOCKS, FAULTS, HIGH, LOW, LOWER, OPERATIONS, RAISE, RANGE_ERROR, SUPPLY_TRIP, TRIPS, WORN, WRONG_CODE,
@@ -17,6 +17,8 @@ use crate::shown::counted;
 #[derive(Clone, Debug, PartialEq)]
 pub struct Spell {
     pub name: String,
+    /// Why a reading was missing.
+    pub why: Option<String>,
     pub times: usize,
     pub ticks: u32,
 }
@@ -26,8 +28,8 @@ pub struct Summary {
     pub ticks: u32,
     pub raises: usize,
     pub lowers: usize,
-    /// At the first tick and at the last one, where the sheet counts them, and whether they have reached N_max.
-    pub operations: Option<(u32, u32)>,
+    /// How many there were and the count as it ends, where the sheet counts them, and whether that reached N_max.
+    pub operations: Option<(usize, u32)>,
     pub worn: bool,
     pub low: Spell,
     pub high: Spell,
@@ -42,15 +44,11 @@ pub fn summary(history: &History, list: &[u32]) -> Summary {
     let continuous = is_continuous(list);
     let of = |field: usize| spell(history, field, continuous);
     let came = |fields: &mut dyn Iterator<Item = usize>| fields.map(of).filter(|spell| spell.times > 0).collect();
-    let operations = (&history.outputs[OPERATIONS].first(), &history.outputs[OPERATIONS].last());
     Summary {
         ticks: history.ticks,
         raises: of(RAISE).times,
         lowers: of(LOWER).times,
-        operations: match operations {
-            (Some(first), Some(last)) if list[WEAR] == 1 => Some((first.1, last.1)),
-            _ => None,
-        },
+        operations: (list[WEAR] == 1).then(|| operations(history)),
         worn: of(WORN).times > 0,
         low: of(LOW),
         high: of(HIGH),
@@ -66,7 +64,14 @@ pub fn summary(history: &History, list: &[u32]) -> Summary {
 
 fn spell(history: &History, field: usize, continuous: bool) -> Spell {
     let (times, ticks) = on(&history.outputs[field], history.ticks);
-    Spell { name: short(field, continuous).to_string(), times, ticks }
+    Spell { name: short(field, continuous).to_string(), why: None, times, ticks }
+}
+
+/// The operations of a run, and the count at its end. As a unit comes back from out, its count becomes N_start, which is none.
+fn operations(history: &History) -> (usize, u32) {
+    let signal = &history.outputs[OPERATIONS];
+    let counts = |pair: &&[(u32, u32)]| pair[1].1 == pair[0].1 + 1 && !history.contact(OUT, pair[1].0 - 1);
+    (signal.windows(2).filter(counts).count(), signal.last().map_or(0, |(_, count)| *count))
 }
 
 /// How often a signal became other than 0, and for how many ticks it was.
@@ -83,8 +88,10 @@ fn on(signal: &Signal<u32>, ticks: u32) -> (usize, u32) {
 
 /// Each reading that was missing, once for each reason.
 fn missing_readings(history: &History, rated: u32) -> Vec<Spell> {
-    let name = |at: usize, why| format!("{}, {}", READINGS[at].name, missing::words(why, at, rated));
-    let spell = |(at, why, ticks)| Spell { name: name(at, why), times: 0, ticks };
+    let spell = |(at, why, ticks): (usize, Why, u32)| {
+        let why = Some(missing::words(why, at, rated));
+        Spell { name: READINGS[at].name.to_string(), why, times: 0, ticks }
+    };
     history.reasons.came().map(spell).collect()
 }
 
@@ -106,9 +113,9 @@ impl Summary {
     }
 
     fn operations_words(&self) -> String {
-        let worn = if self.worn { "; N_max is reached" } else { "" };
+        let worn = if self.worn { ", and N_max was reached" } else { "" };
         match self.operations {
-            Some((first, last)) => format!("{}, from {first} to {last}{worn}", last.saturating_sub(first)),
+            Some((done, count)) => format!("{done}; the count is {count}{worn}"),
             None => "not counted, XB18 = off".to_string(),
         }
     }
@@ -121,7 +128,8 @@ impl Spell {
             0 => String::new(),
             times => format!("{}, ", counted(times, "time")),
         };
-        format!("{}: {times}{}", self.name, time(self.ticks))
+        let why = self.why.as_ref().map_or(String::new(), |why| format!(", {why}"));
+        format!("{}{why}: {times}{}", self.name, time(self.ticks))
     }
 }
 

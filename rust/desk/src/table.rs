@@ -1,10 +1,12 @@
 //! The table: what changed on which tick, for people, as CSV or as JSON.
 
+use std::collections::HashSet;
+
 use crate::cells;
-use crate::inputs::{is_on, CONTACTS, READINGS};
+use crate::inputs::{is_on, CONTACTS, OUT, READINGS};
 use crate::json;
 use crate::missing;
-use crate::names::{rated_amps, MODULE};
+use crate::names::{rated_amps, MODULE, TAP_SOURCE};
 use crate::outputs;
 use crate::press;
 use crate::run::{History, Signal, Window};
@@ -60,14 +62,28 @@ pub fn table(history: &History, list: &[u32], wanted: Wanted) -> String {
         press_changes(history, &mut changes);
         output_changes(history, is_continuous(list), &mut changes);
     }
-    changes.retain(|change| wanted.window.holds(change.tick));
     changes.sort_by_key(|change| change.tick);
+    let changes = seen_in(changes, wanted.window);
     match wanted.form {
         Form::Text => text(history, &changes) + "\n" + &summary(history, list).text(),
         Form::Csv => csv(&changes),
         Form::Json => json::document(&changes, &summary(history, list)),
     }
 }
+
+/// The changes in a window, and before them the last one of each name, where it still stands as the window begins.
+fn seen_in(mut changes: Vec<Change>, window: Window) -> Vec<Change> {
+    let begins = changes.partition_point(|change| change.tick < window.from);
+    let mut known = HashSet::new();
+    let is_last = |change: &Change| known.insert((change.side, change.name)) && !IDLE.contains(&change.value.as_str());
+    let mut seen: Vec<Change> = changes.drain(..begins).rev().filter(is_last).collect();
+    seen.reverse();
+    seen.extend(changes.into_iter().filter(|change| change.tick <= window.to));
+    seen
+}
+
+/// The values of what does not stand.
+const IDLE: [&str; 2] = ["0", "none"];
 
 /// For people: time and tick stand at the first change of a tick.
 fn text(history: &History, changes: &[Change]) -> String {
@@ -108,7 +124,25 @@ fn input_changes(history: &History, list: &[u32], readings: bool) -> Vec<Change>
         false => missing_changes(history, rated, &mut changes),
     }
     contact_changes(&history.contacts, &mut changes);
+    tap_changes(history, list, &mut changes);
     changes
+}
+
+/// The sources of the tap that a tick brings, by their numbers.
+const FROM_BCD: u32 = 1;
+const FROM_SENSOR: u32 = 2;
+
+/// What the sheet's source of the tap brings.
+fn tap_changes(history: &History, list: &[u32], changes: &mut Vec<Change>) {
+    let (name, signal, text): (_, _, fn(u8) -> String) = match list[TAP_SOURCE] {
+        FROM_BCD => ("BCD", &history.bcd, cells::bcd_text),
+        FROM_SENSOR => ("sensor", &history.sensor, |number| number.to_string()),
+        _ => return,
+    };
+    for (tick, number) in signal.iter().filter(|(tick, number)| *tick > 1 || *number != 0) {
+        let value = text(*number);
+        changes.push(Change { tick: *tick, side: "in", name, words: format!("{name} {value}"), value });
+    }
 }
 
 fn reading_changes(history: &History, rated: u32, changes: &mut Vec<Change>) {
@@ -181,7 +215,11 @@ fn output_changes(history: &History, continuous: bool, changes: &mut Vec<Change>
     for (field, signal) in history.outputs.iter().enumerate() {
         for (tick, now) in signal {
             if *tick > 1 || *now != 0 {
-                let (name, words) = (outputs::short(field, continuous), outputs::words(field, *now, continuous));
+                let name = outputs::short(field, continuous);
+                let words = match *now == 0 && history.contact(OUT, *tick) {
+                    true => format!("{name}: off, the unit is out"),
+                    false => outputs::words(field, *now, continuous),
+                };
                 changes.push(Change { tick: *tick, side: "out", name, value: now.to_string(), words });
             }
         }

@@ -8,6 +8,7 @@ use std::path::{Path, PathBuf};
 
 use crate::file::{why, Errors, STANDARD};
 use crate::shown;
+use crate::standard;
 
 /// A file that is to be written, or standard output.
 pub struct Target {
@@ -27,7 +28,8 @@ enum Same {
 
 /// The targets of a command, each of which can be written. None is a file that is read, and none is another one.
 pub fn targets(paths: &[&str], inputs: &[&str]) -> Result<Vec<Target>, Errors> {
-    let mut taken: Vec<Same> = inputs.iter().filter(|path| **path != STANDARD).map(|path| same(Path::new(path))).collect();
+    let named = inputs.iter().filter(|path| **path != STANDARD).map(Path::new);
+    let mut taken: Vec<Same> = named.chain(standard::output_file()).map(same).collect();
     let mut targets = Vec::new();
     for path in paths {
         let target = Target::new(path)?;
@@ -59,7 +61,7 @@ pub fn write(files: &[(Target, Vec<u8>)]) -> Result<(), Errors> {
 impl Target {
     fn new(path: &str) -> Result<Target, Errors> {
         let target = match path {
-            STANDARD => Target { name: "standard output".to_string(), path: None },
+            STANDARD => Target { name: standard::OUTPUT.to_string(), path: None },
             _ => Target { name: shown::name(path), path: Some(behind(path)) },
         };
         target.check().map_err(|words| vec![target.says(&words)])?;
@@ -101,6 +103,16 @@ impl Target {
             Some(path) if self.is_special() => Ok(Box::new(OpenOptions::new().write(true).open(path)?)),
             Some(path) => Ok(Box::new(fs::File::create(path)?)),
         }
+    }
+
+    /// A file on a disk, which can be written anywhere.
+    pub fn is_plain(&self) -> bool {
+        self.path.is_some() && !self.is_special()
+    }
+
+    /// Writes the first byte of a file that is there.
+    pub fn write_first(&self, byte: u8) -> io::Result<()> {
+        self.path.as_ref().map_or(Ok(()), |path| OpenOptions::new().write(true).open(path)?.write_all(&[byte]))
     }
 
     /// Removes a file that was begun and not finished, where it was not there before.

@@ -53,12 +53,19 @@ impl Words {
             return Err(format!("{} given, {} wanted", shown::counted(self.plain.len(), "file name"), takes.plain));
         }
         for names in takes.needed {
-            if names.iter().filter(|name| self.option(name).is_some()).count() != 1 {
-                return Err(format!("give --{}", names.join(" or --")));
+            match names.iter().filter(|name| self.option(name).is_some()).count() {
+                0 => return Err(format!("give --{}", names.join(" or --"))),
+                1 => (),
+                _ => return Err(format!("give one of --{} alone", names.join(" and --"))),
             }
         }
         Ok(())
     }
+}
+
+/// The word after an option, unless that is another option; `--table=--odd` names such a file.
+fn value_of<'a>(rest: &mut impl Iterator<Item = &'a String>) -> Option<String> {
+    rest.next().filter(|word| !word.starts_with("--")).cloned()
 }
 
 pub fn parse(takes: &Takes, words: &[String]) -> Result<Words, String> {
@@ -68,10 +75,10 @@ pub fn parse(takes: &Takes, words: &[String]) -> Result<Words, String> {
         match word.as_str() {
             "--help" | "-h" => parsed.help = true,
             "--" => parsed.plain.extend(rest.by_ref().cloned()),
-            "-o" => parsed.take_option(takes, "output", rest.next().cloned())?,
+            "-o" => parsed.take_option(takes, "output", value_of(&mut rest))?,
             long if long.starts_with("--") => match long[2..].split_once('=') {
                 Some((name, value)) => parsed.take_option(takes, name, Some(value.to_string()))?,
-                None => parsed.take_option(takes, &long[2..], rest.next().cloned())?,
+                None => parsed.take_option(takes, &long[2..], value_of(&mut rest))?,
             },
             short if short.len() > 1 && short.starts_with('-') => {
                 return Err(format!("no option is called {}", shown::text(short)))

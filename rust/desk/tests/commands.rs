@@ -30,6 +30,8 @@ fn help_is_there_for_each_subcommand() {
         vec!["scenario", "write", "--help"],
         vec!["scenario", "show", "--help"],
         vec!["run", "--help"],
+        vec!["help", "run"],
+        vec!["--help", "sheet", "check"],
     ] {
         let output = avr(&words);
         assert_eq!(output.status.code(), Some(0), "{words:?}");
@@ -284,7 +286,7 @@ fn a_scenario_without_a_needed_pair_is_remarked_on() {
             assert!(!told.contains(&"I_coupler") || said.ends_with(without), "{said}");
         }
     }
-    let (sheet, csv) = (folder.write("a.txt", "XB4 = U_comp\n"), folder.write("a.csv", SCENARIO));
+    let (sheet, csv) = (folder.write("a.txt", "XB1 = on\n"), folder.write("a.csv", SCENARIO));
     assert_eq!(err(&avr(&["run", "--sheet", &sheet, "--scenario", &csv])), "");
 }
 

@@ -15,11 +15,11 @@ use desk::unit::start;
 use desk::{ends, scenario, sheet};
 use library::Brought;
 
-const RAISE: Seen = Seen { command: Some(Way::Raise), trip: false, reset: false };
-const LOWER: Seen = Seen { command: Some(Way::Lower), trip: false, reset: false };
-const NOTHING: Seen = Seen { command: None, trip: false, reset: false };
-const TRIP: Seen = Seen { command: None, trip: true, reset: false };
-const RESET: Seen = Seen { command: None, trip: false, reset: true };
+const RAISE: Seen = Seen { command: Some(Way::Raise), trip: false, reset: false, supply_off: false };
+const LOWER: Seen = Seen { command: Some(Way::Lower), trip: false, reset: false, supply_off: false };
+const NOTHING: Seen = Seen { command: None, trip: false, reset: false, supply_off: false };
+const TRIP: Seen = Seen { command: None, trip: true, reset: false, supply_off: false };
+const RESET: Seen = Seen { command: None, trip: false, reset: true, supply_off: false };
 
 /// Taps from 1 to 79.
 const WIDE: Ends = Ends { lowest: 1, highest: 79, reversed: false };
@@ -400,4 +400,17 @@ fn local_drive_takes_the_command_off_and_the_drive_stops() {
     assert_eq!(history.outputs[RAISE_COMMAND], [(1, 0), (1000, 1), (1801, 0)]);
     assert_eq!(history.outputs[TAP], [(1, 9), (1500, 10)]);
     assert_eq!(history.outputs[OPERATIONS], [(1, 0)]);
+}
+
+/// The scenario's own contact takes the supply of either drive: a move ends there, and goes no further.
+#[test]
+fn a_drive_without_supply_does_not_move() {
+    for sheet in ["XB6 = counted\n", "XB2 = continuous\nXB6 = sensor\n"] {
+        let (_, ticks) = run_of(sheet, ",supply_off", "90,1");
+        assert!(ticks.iter().all(|tick| tick.readings[0].value == 90.0), "{sheet}");
+    }
+    let (mut drive, ok) = (Drive::new(9, WIDE), nature(Temper::Ok, 1, 10));
+    assert!((0..5).map(|_| drive.tick(&ok, RAISE)).last().expect("a tick"), "it moves");
+    assert!(!drive.tick(&ok, Seen { supply_off: true, ..RAISE }));
+    assert!(!drive.tick(&ok, RAISE), "the command is an old one");
 }

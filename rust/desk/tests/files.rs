@@ -105,11 +105,81 @@ fn a_closed_standard_output_is_an_error() {
     for words in [run.as_str(), "--help", "sheet check --help", &format!("sheet check {}", desk.sheet)] {
         let line = format!("{} {words} >&-", env!("CARGO_BIN_EXE_avr"));
         let output = Command::new("sh").args(["-c", &line]).output().expect("a shell");
-        assert_eq!((output.status.code(), err(&output).as_str()), (Some(1), "avr: standard output is closed\n"), "{words}");
+        assert_eq!(
+            (output.status.code(), err(&output).as_str()),
+            (Some(1), "avr: standard output is closed, or cannot be written\n"),
+            "{words}"
+        );
     }
     assert_eq!(desk.folder.names(), ["a.csv", "a.txt"]);
     let null = desk.run_into(Stdio::null(), &["--svg", &target]);
     assert!(null.status.success(), "{}", err(&null));
+}
+
+/// Open, but for reading; and a standard input that is open for writing, or not at all.
+#[test]
+fn standard_input_and_output_that_go_the_wrong_way_are_errors() {
+    let desk = Desk::new("ways");
+    for (line, told) in [
+        (format!("sheet check {} 1</dev/null", desk.sheet), "standard output is closed, or cannot be written"),
+        ("sheet check - <&-".to_string(), "standard input: is closed, or cannot be read"),
+        ("sheet check - 0>/dev/null".to_string(), "standard input: is closed, or cannot be read"),
+        (format!("run --sheet {} --scenario - <&-", desk.sheet), "standard input: is closed, or cannot be read"),
+        (format!("run --sheet {} --recording - <&-", desk.sheet), "standard input: is closed, or cannot be read"),
+    ] {
+        let line = format!("{} {line}", env!("CARGO_BIN_EXE_avr"));
+        let output = Command::new("sh").args(["-c", &line]).output().expect("a shell");
+        assert_eq!((output.status.code(), err(&output)), (Some(1), format!("avr: {told}\n")), "{line}");
+    }
+    let empty = Command::new("sh").args(["-c", &format!("{} sheet check - </dev/null", env!("CARGO_BIN_EXE_avr"))]).output();
+    assert!(err(&empty.expect("a shell")).contains("no setting is named in it"));
+}
+
+/// What is printed into a file is not written over by another part of the same command.
+#[test]
+fn the_file_of_standard_output_is_no_target() {
+    let desk = Desk::new("stdout");
+    let target = desk.folder.path("x");
+    for svg in [target.as_str(), "/dev/stdout"] {
+        let output = desk.run_into(File::create(&target).expect("a file").into(), &["--svg", svg]);
+        assert_eq!(output.status.code(), Some(1), "{svg}");
+        assert!(err(&output).contains("would be written over another file of this command"), "{}", err(&output));
+    }
+    assert!(desk.run_into(File::create(&target).expect("a file").into(), &[]).status.success());
+}
+
+#[test]
+fn a_recording_in_a_pipe_is_shown() {
+    let desk = Desk::new("pipe");
+    let file = desk.folder.path("a.rec");
+    assert!(avr(&["scenario", "write", &desk.csv, "-o", &file]).status.success());
+    let line = format!("cat {file} | {} scenario show /dev/stdin", env!("CARGO_BIN_EXE_avr"));
+    let shown = Command::new("sh").args(["-c", &line]).output().expect("a shell");
+    assert_eq!(out(&shown), out(&avr(&["scenario", "show", &file])), "{}", err(&shown));
+}
+
+#[test]
+fn a_recording_that_was_broken_off_is_refused() {
+    let desk = Desk::new("broken");
+    let long = desk.folder.write("long.csv", "seconds,U_AB\n0,98\n100000,end\n");
+    let file = desk.folder.path("a.rec");
+    let mut child = Command::new(env!("CARGO_BIN_EXE_avr"))
+        .args(["scenario", "write", &long, "--sheet", &desk.sheet, "-o", &file])
+        .stderr(Stdio::null())
+        .spawn()
+        .expect("avr runs");
+    let enough = |path: &str| fs::metadata(path).is_ok_and(|data| data.len() > 1 << 20);
+    while !enough(&file) && child.try_wait().expect("a look").is_none() {
+        std::thread::sleep(Duration::from_millis(5));
+    }
+    child.kill().and_then(|()| child.wait()).expect("its end");
+    let whole = fs::metadata(&file).expect("a part").len() / recording::BYTES as u64 * recording::BYTES as u64;
+    OpenOptions::new().write(true).open(&file).and_then(|part| part.set_len(whole)).expect("whole ticks");
+    let output = avr(&["run", "--sheet", &desk.sheet, "--recording", &file]);
+    assert_eq!(
+        (output.status.code(), err(&output)),
+        (Some(1), format!("avr: {file}: its writing was broken off: write it again\n"))
+    );
 }
 
 #[test]

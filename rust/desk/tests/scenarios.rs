@@ -217,7 +217,7 @@ const BAD_SCENARIOS: [(&str, &str); 44] = [
         "file:2: I_bus_phasor: `0.8` is no phasor: a magnitude from 0 on and degrees, 0.8@-30 or 0.8@-30 held, or invalid",
     ),
     ("HEAD0,,yes\n2,end", "file:2: breaker: `yes` is no contact: 1 or 0, on or off, closed or open"),
-    ("HEAD0,,,100\n2,end", "file:2: BCD: `100` is no BCD code: a tap from 0 to 99, or lines from 0x00 to 0xff"),
+    ("HEAD0,,,100\n2,end", "file:2: BCD: `100` is no BCD code: a tap from 0 to 79, or lines from 0x00 to 0xff"),
     ("HEAD0,,,,256\n2,end", "file:2: sensor: `256` is no sensor number: 0 to 255"),
     ("HEAD0,1\n1.5,2\n2,end", "file:3: the time `1.5` is no whole number of ticks"),
     ("seconds,U_AB\n0,1\n0.001,2\n1,end", "file:3: the time `0.001` s is no whole number of ticks of 0.005 s"),

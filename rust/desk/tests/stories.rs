@@ -123,6 +123,7 @@ const OFF_THE_END: &str = "\
 /// One command over all taps, which ends in band and counts on that tick.
 const IN_BAND: &str = "\
      42.500       8500  in   U_AB 99.4 V
+                        in   sensor 12
                         out  raise command off
                         out  tap 12
                         out  voltage no longer low
@@ -155,6 +156,7 @@ const AFTER_T1: &str = "\
      42.000       8400  out  RAISE command
                         out  drive asked
      46.000       9200  in   U_AB 99.9 V
+                        in   BCD 10
                         out  raise command off
 ";
 

@@ -39,7 +39,7 @@ fn run(name: &str, more: &[&str]) -> String {
 const SUMMARY: &str = "
 summary of 40 s, 8000 ticks
   commands          2 raises, 0 lowers
-  operations        1, from 49999 to 50000; N_max is reached
+  operations        1; the count is 50000, and N_max was reached
 ";
 
 #[test]
@@ -159,13 +159,31 @@ fn only_inputs_or_outputs_are_told_on_request() {
     assert!(count(&all, "  in   ") > 10 && count(&all, "  out  ") > 10);
 }
 
+/// Both of its times are in it, and before them comes what stands.
 #[test]
-fn a_window_holds_its_own_changes() {
-    let table = run("window", &["--from", "12", "--to", "15"]);
-    let times: Vec<&str> = table.lines().skip(1).map(|line| line.get(..11).unwrap_or("").trim()).collect();
-    let times: Vec<&str> = times.into_iter().take_while(|time| *time != "40.000").filter(|time| !time.is_empty()).collect();
-    assert_eq!(times, ["12.005", "13.005"]);
-    assert!(table.contains("summary of 40 s"), "the summary is of the whole run");
+fn a_window_holds_its_own_changes_and_what_stands() {
+    let window = told(&run("window", &["--from", "12.005", "--to", "13.005"]));
+    let all = told(&run("no-window", &[]));
+    let inside = |change: &&[String; 4]| (2401..=2601).contains(&change[1].parse::<u32>().expect("a tick"));
+    let (before, seen) = window.split_at(window.iter().position(|change| change[1] == "2401").expect("its beginning"));
+    assert_eq!(seen.iter().collect::<Vec<_>>(), all.iter().filter(inside).collect::<Vec<_>>());
+    assert_eq!((seen.len(), seen[1][1].as_str()), (2, "2601"));
+    let stands: Vec<&str> = before.iter().map(|change| change[3].as_str()).collect();
+    let wanted = ["I_bus 0.5 A", "breaker closed", "key: automatic", "section present", "automatic mode"];
+    assert!(wanted.iter().all(|words| stands.contains(words)), "{stands:?}");
+    for gone in ["RAISE command", "raise command off", "switching contact open", "drive at rest", "U_AB 98 V"] {
+        assert!(!stands.contains(&gone), "{gone} does not stand: {stands:?}");
+    }
+    assert!(stands.contains(&"U_AB invalid") && stands.contains(&"automatic blocked"), "{stands:?}");
+    assert!(run("whole-summary", &["--from", "12"]).contains("summary of 40 s"), "the summary is of the whole run");
+}
+
+#[test]
+fn a_window_may_be_one_tick() {
+    let table = run("instant", &["--from", "2", "--to", "2", "--only", "outputs"]);
+    let changes: Vec<[String; 4]> = told(&table).into_iter().filter(|change| change[1] == "400").collect();
+    assert_eq!(changes.iter().map(|change| change[3].as_str()).collect::<Vec<_>>(), ["RAISE command", "drive busy"]);
+    assert!(run("instant-picture", &["--from", "2", "--to", "2", "--svg", "/dev/null"]).contains("RAISE command"));
 }
 
 #[test]
@@ -176,7 +194,11 @@ fn a_wrong_window_is_told() {
         let output = avr(&[&["run", "--sheet", &sheet, "--scenario", &csv], more].concat());
         (output.status.code().expect("a status"), err(&output).lines().next().unwrap_or_default().to_string())
     };
-    assert_eq!(told(&["--from", "5", "--to", "5"]), (2, "avr: --from must be before --to".to_string()));
+    assert_eq!(told(&["--from", "5", "--to", "4"]), (2, "avr: --from is after --to".to_string()));
+    assert_eq!(told(&["--to", "0"]), (2, "avr: --to is before the first tick, at 0.005 s".to_string()));
+    assert_eq!(told(&["--title", "a"]), (2, "avr: --title is a picture's: give --svg FILE too".to_string()));
+    assert_eq!(told(&["--table", "--svg", "x"]), (2, "avr: --table has no value".to_string()));
+    assert_eq!(told(&["--recording", "x"]), (2, "avr: give one of --scenario and --recording alone".to_string()));
     assert_eq!(told(&["--from", "x"]), (2, "avr: --from: the time `x` is not a number".to_string()));
     assert_eq!(told(&["--from", "40"]), (1, "avr: --from 40 is not before the end of the run, 40 s".to_string()));
     assert_eq!(told(&["--only", "faults"]), (2, "avr: --only takes all or inputs or outputs, and not `faults`".to_string()));
@@ -237,10 +259,19 @@ fn json_has_the_changes_of_the_table_and_the_summary() {
     assert_eq!(changes, told(&table));
     let summary = json.at("summary");
     assert_eq!((number(summary, "raises"), number(summary, "lowers"), number(summary, "ticks")), (2.0, 0.0, 8000.0));
-    assert_eq!(summary.at("operations").list(), [Json::Number(49999.0), Json::Number(50000.0)]);
+    assert_eq!((number(summary, "operations"), number(summary, "count")), (1.0, 50000.0));
     assert_eq!(summary.at("worn"), &Json::Word(true));
     assert_eq!(text(&summary.at("trips").list()[0], "name"), "I_bus over I_set2");
-    assert_eq!(summary.at("missing_readings").list().len(), 5);
+    let missing: Vec<[String; 2]> =
+        summary.at("missing_readings").list().iter().map(|one| [text(one, "name"), text(one, "why")]).collect();
+    assert_eq!(missing.len(), 5);
+    assert!(missing.contains(&["U_AB".to_string(), "beyond 200 V".to_string()]), "{missing:?}");
+    let value = |words: &str| {
+        let found = json.at("changes").list().iter().find(|change| text(change, "change") == words);
+        found.expect("such a change").at("value")
+    };
+    assert_eq!(value("U_AB 200.5 V, missing: beyond 200 V"), &Json::Number(200.5));
+    assert_eq!(value("U_AB invalid"), &Json::Text("invalid".to_string()));
     assert_eq!(summary.at("tap_errors").list(), []);
 }
 
@@ -272,4 +303,69 @@ fn a_float_that_is_no_number_stays_the_same() {
     let shown = folder.path("a.rec");
     assert!(avr(&["scenario", "write", &csv, "-o", &shown]).status.success());
     assert_eq!(out(&avr(&["scenario", "show", &shown])).lines().count(), 3);
+}
+
+/// As a unit comes back from out its count begins again, which is no operation, and operations before it stay what they were.
+#[test]
+fn operations_are_counted_through_out() {
+    let folder = Folder::new("through-out");
+    let sheet = folder.write("a.txt", "XB1 = on\nXB18 = on\nT1 = 1\nT2 = 1\nT3 = 1\nN_start = 7\n");
+    for (rows, told) in [
+        ("0,90,1,1,0,ok\n14,,,,1\n15,,,,0\n20,end\n", "operations        4; the count is 8\n"),
+        ("0,100,1,1,1,ok\n1,,,,0\n5,end\n", "operations        0; the count is 7\n"),
+        ("0,100,1,1,0,ok\n1,,,,1\n5,end\n", "operations        0; the count is 0\n"),
+    ] {
+        let csv = folder.write("a.csv", format!("seconds,U_AB,breaker,automatic,out,drive\n{rows}"));
+        let table = out(&avr(&["run", "--sheet", &sheet, "--scenario", &csv]));
+        assert!(table.contains(told), "{told}{table}");
+    }
+}
+
+/// What goes off as the unit is taken out is told as that, and not as free.
+#[test]
+fn a_unit_that_is_out_is_neither_free_nor_manual() {
+    let folder = Folder::new("words-out");
+    let sheet = folder.write("a.txt", "XB1 = on\n");
+    let csv = folder.write("a.csv", "seconds,U_AB,breaker,automatic,ext_block,out\n0,100,1,1,1,0\n1,,,,,1\n2,end\n");
+    let table = out(&avr(&["run", "--sheet", &sheet, "--scenario", &csv]));
+    for told in ["automatic blocked: off, the unit is out", "automatic: off, the unit is out"] {
+        assert!(table.contains(told), "{table}");
+    }
+    assert!(!table.contains(" free\n") && !table.contains("manual mode"), "{table}");
+}
+
+/// The tap's source is told, and the other one is not.
+#[test]
+fn what_the_tap_is_read_from_is_told() {
+    let folder = Folder::new("source");
+    let csv = folder.write("a.csv", "seconds,U_AB,breaker,BCD,sensor\n0,100,1,20,30\n1,,,0x1a,31\n2,end\n");
+    for (source, told, untold) in
+        [("BCD", ["BCD 20\n", "BCD 0x1a\n"], "sensor"), ("sensor", ["sensor 30\n", "sensor 31\n"], "in   BCD")]
+    {
+        let sheet = folder.write("a.txt", format!("XB1 = on\nXB6 = {source}\n"));
+        let table = out(&avr(&["run", "--sheet", &sheet, "--scenario", &csv]));
+        assert!(told.iter().all(|words| table.contains(words)) && !table.contains(untold), "{table}");
+    }
+}
+
+/// What a sheet looks at and no column gives, a remark each.
+#[test]
+fn what_no_column_gives_is_remarked_on() {
+    let folder = Folder::new("remarks");
+    let remarks = |sheet: &str, columns: &str| {
+        let (sheet, csv) = (folder.write("a.txt", sheet), folder.write("a.csv", format!("seconds,{columns}\n0\n1,end\n")));
+        let output = avr(&["run", "--sheet", &sheet, "--scenario", &csv]);
+        err(&output).replace(&format!("avr: {csv}: "), "")
+    };
+    let bus = |setting: &str| format!("{setting} looks at I_bus, which no column gives, so that it is 0: add I_bus\n");
+    assert_eq!(remarks("XB1 = on\n", "U_AB"), "");
+    assert_eq!(remarks("XB1 = on\nXB3 = on\n", "U_AB"), bus("XB3 = on"));
+    assert_eq!(remarks("XB1 = on\nXB8 = on\nXB9 = on\n", "U_AB"), bus("XB8 = on"), "a reading is told once");
+    assert_eq!(remarks("XB1 = on\nXB4 = U_comp\n", "U_AB"), bus("XB4 = U_comp with XB5 = bus"));
+    assert_eq!(remarks("XB1 = on\nXB4 = U_comp\n", "U_AB,I_bus"), "");
+    assert!(remarks("XB1 = on\nXB6 = BCD\n", "U_AB").starts_with("XB6 = BCD looks at BCD, "));
+    assert_eq!(remarks("XB1 = on\nXB6 = BCD\n", "U_AB,BCD"), "");
+    assert_eq!(remarks("XB1 = on\nXB6 = BCD\n", "U_AB,drive"), "");
+    assert!(remarks("XB1 = on\n", "I_bus").starts_with("no column gives U_AB"));
+    assert!(remarks("XB3 = on\n", "I_high").starts_with("the sheet has XB1 = off: the unit is out of service"));
 }

@@ -4,16 +4,13 @@ pub mod run;
 pub mod scenario;
 pub mod sheet;
 
-use crate::columns::{self, Column};
 use crate::ends;
 use crate::file::{Errors, File, STANDARD};
-use crate::inputs::{Pair, PAIRS, READINGS, U_AB, U_AB_PAIR};
-use crate::names::{COMPENSATION_CURRENT, TABLE};
+use crate::remarks;
 use crate::scenario::Scenario;
-use crate::sheet::{explain, needed_pairs, Sheet};
+use crate::sheet::{explain, Sheet};
 use crate::target::Target;
 use crate::unit::{self, Unit};
-use crate::value;
 
 /// What a command gives: to standard output, to files, and then notes on standard error.
 #[derive(Default)]
@@ -64,28 +61,7 @@ fn read_once(inputs: &[&str]) -> Result<(), Failure> {
 
 /// Remarks on what the unit needs and no column gives.
 fn remarks(file: &File, scenario: &Scenario, sheet: &Sheet) -> Vec<String> {
-    let needed = sheet_pairs(scenario, sheet).map(|pair| without_pair(pair, sheet));
-    let remarks = without_voltage(scenario).into_iter().chain(needed);
-    remarks.map(|words| format!("avr: {}", file.says(&words))).collect()
-}
-
-fn sheet_pairs<'a>(scenario: &'a Scenario, sheet: &Sheet) -> impl Iterator<Item = usize> + 'a {
-    needed_pairs(&sheet.list).iter().copied().filter(|pair| !columns::gives_pair(&scenario.columns, *pair))
-}
-
-fn without_voltage(scenario: &Scenario) -> Option<String> {
-    let given = scenario.columns.contains(&Column::Reading(U_AB)) || columns::gives_pair(&scenario.columns, U_AB_PAIR);
-    (!given).then(|| "no column gives U_AB, so that it is 0 V: add U_AB".to_string())
-}
-
-fn without_pair(pair: usize, sheet: &Sheet) -> String {
-    let Pair { name, phasor, parts: [re, im] } = &PAIRS[pair];
-    let (re, im) = (READINGS[*re].name, READINGS[*im].name);
-    let current = value::text(&TABLE[COMPENSATION_CURRENT], sheet.list[COMPENSATION_CURRENT]);
-    format!(
-        "XB4 = RX with XB5 = {current} goes by {name} as a pair, which no column gives, so that it is 0: \
-         add {phasor}, or {re} and {im}"
-    )
+    remarks::remarks(scenario, &sheet.list).iter().map(|words| format!("avr: {}", file.says(words))).collect()
 }
 
 /// Whether the scenario's drive goes with the sheet.

@@ -28,7 +28,8 @@ pub fn run(words: &Words) -> Result<Said, Failure> {
     let title = words.option("title").unwrap_or_else(|| last_part(name));
     tell(&mut said, &history, &sheet, wanted, table);
     if let Some(target) = svg {
-        let view = View { title, from: wanted.window.from, to: wanted.window.to.min(history.ticks) };
+        let view =
+            View { title, from: wanted.window.from, to: wanted.window.to.max(wanted.window.from + 1).min(history.ticks) };
         said.put("picture", target, picture::picture(&history, &sheet.list, view).into_bytes());
     }
     Ok(said)
@@ -47,9 +48,10 @@ fn window(words: &Words) -> Result<Window, Failure> {
         None => Ok(default),
     };
     let window = Window { from: time("from", Window::WHOLE.from)?, to: time("to", Window::WHOLE.to)? };
-    match window.from < window.to {
-        true => Ok(window),
-        false => Err(Failure::Usage("--from must be before --to".to_string())),
+    match window.to {
+        0 => Err(Failure::Usage("--to is before the first tick, at 0.005 s".to_string())),
+        to if window.from > to => Err(Failure::Usage("--from is after --to".to_string())),
+        _ => Ok(window),
     }
 }
 
@@ -60,6 +62,9 @@ fn outputs(words: &Words, inputs: &[&str]) -> Result<[Option<Target>; 2], Failur
     if table == STANDARD && svg == Some(STANDARD) {
         let words = "table and picture would both be on standard output: give --table FILE or --svg FILE";
         return Err(Failure::Usage(words.to_string()));
+    }
+    if svg.is_none() && words.option("title").is_some() {
+        return Err(Failure::Usage("--title is a picture's: give --svg FILE too".to_string()));
     }
     let paths: Vec<&str> = [table].into_iter().chain(svg).collect();
     let mut targets = targets(&paths, inputs)?.into_iter();

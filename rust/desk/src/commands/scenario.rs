@@ -1,5 +1,6 @@
 //! `avr scenario`. What it writes may be of a whole day, and is written as it is made.
 
+use std::fs;
 use std::io::{Cursor, Read};
 
 use library::FIELDS;
@@ -48,7 +49,7 @@ pub fn write_recording(words: &Words) -> Result<Said, Failure> {
 fn record(sheet: &Sheet, scenario: &Scenario, target: &Target) -> Result<(), Errors> {
     let unit = started(sheet)?;
     let source = Source::Scenario(Player::with_drive(scenario, &sheet.list));
-    let mut stream = Stream::open(target)?;
+    let mut stream = Stream::open_marked(target)?;
     run::run(unit, source, Window::WHOLE, &mut Progress::usual(), |brought| stream.put(&recording::bytes(brought)))?;
     stream.end()
 }
@@ -56,7 +57,7 @@ fn record(sheet: &Sheet, scenario: &Scenario, target: &Target) -> Result<(), Err
 /// The recording of a scenario without a drive, which needs no unit.
 fn record_unanswered(scenario: &Scenario, target: &Target) -> Result<(), Errors> {
     let mut source = Source::Scenario(Player::new(scenario));
-    let mut stream = Stream::open(target)?;
+    let mut stream = Stream::open_marked(target)?;
     let mut tick = 1;
     while let Some(brought) = source.bring(tick, &[0; FIELDS])? {
         stream.put(&recording::bytes(&brought))?;
@@ -65,11 +66,11 @@ fn record_unanswered(scenario: &Scenario, target: &Target) -> Result<(), Errors>
     stream.end()
 }
 
-/// A recording is read twice: for its columns, and for its rows. Standard input is kept for that.
+/// A recording is read twice: for its columns, and for its rows. One that cannot be, as standard input, is kept for that.
 pub fn show_recording(words: &Words) -> Result<Said, Failure> {
     let path = words.plain[0].as_str();
     let target = targets(&[STANDARD], &[path])?.remove(0);
-    let kept = if path == STANDARD { Some(standard_input()?) } else { None };
+    let kept = if is_read_once(path) { Some(all_of(path)?) } else { None };
     let open = || match &kept {
         Some(bytes) => Ok(Recording::of(file::input_name(path), Box::new(Cursor::new(bytes)))),
         None => Recording::open(path),
@@ -84,13 +85,18 @@ pub fn show_recording(words: &Words) -> Result<Said, Failure> {
     Ok(Said::default())
 }
 
-/// Standard input, a little more than the longest recording at most.
-fn standard_input() -> Result<Vec<u8>, Errors> {
+/// Standard input, a pipe.
+fn is_read_once(path: &str) -> bool {
+    path == STANDARD || fs::metadata(path).is_ok_and(|data| !data.is_file() && !data.is_dir())
+}
+
+/// What is in an input, a little more than the longest recording at most.
+fn all_of(path: &str) -> Result<Vec<u8>, Errors> {
     let most = (u64::from(LONGEST) + 1) * recording::BYTES as u64;
     let mut bytes = Vec::new();
-    let read = file::open(STANDARD).and_then(|input| input.take(most).read_to_end(&mut bytes));
+    let read = file::open(path).and_then(|input| input.take(most).read_to_end(&mut bytes));
     match read {
         Ok(_) => Ok(bytes),
-        Err(error) => Err(vec![format!("{}: {}", file::input_name(STANDARD), file::why(&error))]),
+        Err(error) => Err(vec![format!("{}: {}", file::input_name(path), file::why(&error))]),
     }
 }
