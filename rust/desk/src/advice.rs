@@ -1,7 +1,7 @@
 //! Advice on a sheet that is taken: what is allowed and yet does not do what a person means by it. The unit goes by its rules
 //! all the same; this only tells what they make of the sheet.
 
-use crate::names::{at, D_U, MODULE, N_L, N_R, TABLE, TAP_SOURCE, U_SUPP};
+use crate::names::{at, BREAKER_RATING, COMPENSATION, CT_RATING, D_U, MODULE, N_L, N_R, TABLE, TAP_SOURCE, U_SUPP};
 use crate::sheet::is_continuous;
 use crate::value;
 
@@ -15,15 +15,17 @@ pub struct Advice {
 /// What each looks at, in a sheet that is taken.
 type Look = fn(&[u32]) -> Vec<Advice>;
 
-const LOOKS: [Look; 14] = [
+const LOOKS: [Look; 16] = [
     out_of_service,
     line_without_impedance,
+    nothing_left,
     load_without_section,
     end_without_tap,
+    section_overloaded,
     loads_crossed,
     never_over,
-    high_in_band,
-    low_in_band,
+    high_and_bands,
+    low_and_bands,
     voltages_crossed,
     always_accelerated,
     slow_acceleration,
@@ -73,6 +75,22 @@ fn line_without_impedance(list: &[u32]) -> Vec<Advice> {
     })
 }
 
+/// The drop at the module's rated current, in whole mV as the unit has it; before the division it has at most 30 bits.
+fn nothing_left(list: &[u32]) -> Vec<Advice> {
+    let (slot, ct, breaker) = (at("U_comp"), said(list, CT_RATING), said(list, BREAKER_RATING));
+    let drop = list[slot] * list[CT_RATING] / list[BREAKER_RATING];
+    let told = |voltages: String| {
+        let (drop, rated) = (value::text(&TABLE[slot], drop), said(list, MODULE));
+        let words = format!(
+            "is a drop of {drop} at {rated}, with {ct} and {breaker}: such a current takes off all of {voltages}; \
+             set U_comp lower, or correct Inom_ct1 and Inom_bus1"
+        );
+        Advice { slot, words }
+    };
+    let voltages = bands(list, |middle, _| middle, |middle| middle <= drop);
+    voltages.filter(|_| is(list, COMPENSATION, "U_comp")).map(told).into_iter().collect()
+}
+
 /// Without a section nothing is watched.
 fn load_without_section(list: &[u32]) -> Vec<Advice> {
     when(is(list, at("XB3"), "on") && is(list, at("XB9"), "on"), at("XB9"), || {
@@ -87,6 +105,20 @@ fn end_without_tap(list: &[u32]) -> Vec<Advice> {
         "has no part with XB6 = off: no tap is known, so no end is either, and only the contacts end_up and end_down block \
          there; say with XB6 where the tap is read, or write XB16 = off"
             .to_string()
+    })
+}
+
+/// With XB3 the least load of a section is one that XB8 watches as an overload.
+fn section_overloaded(list: &[u32]) -> Vec<Advice> {
+    let (over, least) = (at("I_set2"), at("I_set3"));
+    let watched = is(list, at("XB3"), "on") && is(list, at("XB8"), "on");
+    when(watched && list[least] >= list[over], least, || {
+        let (over, delay) = (said(list, over), said(list, at("T10")));
+        let blocked = blocking(list, at("XB14"), " and blocks automatic");
+        format!(
+            "is not below {over}: with XB3 = on there is a section only where I_bus is above I_set3, and there it is over I_set2, \
+             so that it trips after {delay}{blocked}; set I_set3 below I_set2, or write XB3 = off or XB8 = off"
+        )
     })
 }
 
@@ -106,10 +138,14 @@ fn never_over(list: &[u32]) -> Vec<Advice> {
     odd.map(told).collect()
 }
 
-/// The bands with an odd edge, `U_supp1 (101 V), U_supp3 (103 V)`, or none. Half of dU_set is a whole number of mV.
+/// An edge of each band, with its U_supp. Half of dU_set is a whole number of mV.
+fn edges(list: &[u32], edge: fn(u32, u32) -> u32) -> impl Iterator<Item = (usize, u32)> + '_ {
+    (U_SUPP..=at("U_supp4")).map(move |slot| (slot, edge(list[slot], list[D_U] / 2)))
+}
+
+/// The bands with an odd edge, `U_supp1 (101 V), U_supp3 (103 V)`, or none.
 fn bands(list: &[u32], edge: fn(u32, u32) -> u32, odd: impl Fn(u32) -> bool) -> Option<String> {
-    let edges = (U_SUPP..=at("U_supp4")).map(|slot| (slot, edge(list[slot], list[D_U] / 2)));
-    let words: Vec<String> = edges
+    let words: Vec<String> = edges(list, edge)
         .filter(|(_, edge)| odd(*edge))
         .map(|(slot, edge)| format!("{} ({})", TABLE[slot].name, value::text(&TABLE[slot], edge)))
         .collect();
@@ -124,32 +160,100 @@ fn lower(middle: u32, half: u32) -> u32 {
     middle - half
 }
 
-fn high_in_band(list: &[u32]) -> Vec<Advice> {
-    let limit = at("U_set1");
-    let odd = bands(list, upper, |edge| list[limit] <= edge);
-    in_band(list, [limit, at("XB10"), at("T12")], odd, ["above", "upper", "high", "lower"])
+/// A limit of U_AB, with its watch, its delay and the edge of a band that it must lie beyond.
+struct Limit {
+    slot: usize,
+    watch: usize,
+    delay: usize,
+    edge: fn(u32, u32) -> u32,
+    /// Whether a voltage is not beyond an edge.
+    is_within: fn(u32, u32) -> bool,
+    /// Where it drops out, in twentieths of its number.
+    drop_out: u32,
+    /// Beyond and back, the edge, what a voltage there is and what is done about it, and a number that goes further.
+    words: [&'static str; 6],
 }
 
-fn low_in_band(list: &[u32]) -> Vec<Advice> {
-    let limit = at("U_set2");
-    let odd = bands(list, lower, |edge| list[limit] >= edge);
-    in_band(list, [limit, at("XB11"), at("T13")], odd, ["below", "lower", "low", "raise"])
+const HIGH: Limit = Limit {
+    slot: at("U_set1"),
+    watch: at("XB10"),
+    delay: at("T12"),
+    edge: upper,
+    is_within: |voltage, edge| voltage <= edge,
+    drop_out: 19,
+    words: ["above", "below", "upper", "high", "lowered", "more"],
+};
+
+const LOW: Limit = Limit {
+    slot: at("U_set2"),
+    watch: at("XB11"),
+    delay: at("T13"),
+    edge: lower,
+    is_within: |voltage, edge| voltage >= edge,
+    drop_out: 21,
+    words: ["below", "above", "lower", "low", "raised", "less"],
+};
+
+impl Limit {
+    /// Whether, set to `number`, it stays tripped at an edge.
+    fn stays(&self, number: u32, edge: u32) -> bool {
+        (self.is_within)(self.drop_out * number, 20 * edge)
+    }
+
+    /// The nearest number that drops out beyond the edge of each band.
+    fn sound(&self, list: &[u32]) -> u32 {
+        let (low, high) = TABLE[self.slot].bounds(list[MODULE]);
+        let numbers = (low..=high).step_by(TABLE[self.slot].step as usize);
+        let sound = numbers.filter(|number| edges(list, self.edge).all(|(_, edge)| !self.stays(*number, edge)));
+        sound.min_by_key(|number| number.abs_diff(list[self.slot])).unwrap_or(list[self.slot])
+    }
 }
 
-/// A limit of U_AB that is watched, with its watch and its delay, and not beyond an edge of these bands.
-fn in_band(list: &[u32], slots: [usize; 3], bands: Option<String>, words: [&str; 4]) -> Vec<Advice> {
-    let [limit, watch, delay] = slots;
-    let [beyond, edge, side, way] = words;
-    let told = |bands: String| {
-        let (name, watch, delay) = (TABLE[limit].name, TABLE[watch].name, said(list, delay));
-        let blocked = blocking(list, at("XB15"), &format!(", and automatic is blocked where it should {way}"));
-        let words = format!(
-            "is not {beyond} the {edge} edge of the band of {bands}: a voltage that is only {side} trips after \
-             {delay}{blocked}; set {name} {beyond} it, or write {watch} = off"
-        );
-        Advice { slot: limit, words }
+fn high_and_bands(list: &[u32]) -> Vec<Advice> {
+    limit_and_bands(list, &HIGH)
+}
+
+fn low_and_bands(list: &[u32]) -> Vec<Advice> {
+    limit_and_bands(list, &LOW)
+}
+
+/// A limit of U_AB that is watched, and the bands, which go by U_AB itself only without compensation.
+fn limit_and_bands(list: &[u32], limit: &Limit) -> Vec<Advice> {
+    if !is(list, limit.watch, "on") || !is(list, COMPENSATION, "off") {
+        return Vec::new();
+    }
+    let number = list[limit.slot];
+    let trips = bands(list, limit.edge, |edge| (limit.is_within)(number, edge));
+    let stays = bands(list, limit.edge, |edge| limit.stays(number, edge)).filter(|_| is(list, at("XB15"), "block"));
+    let words = match trips {
+        Some(bands) => Some(trips_in_band(list, limit, &bands)),
+        None => stays.map(|bands| stays_tripped(list, limit, &bands)),
     };
-    bands.filter(|_| is(list, watch, "on")).map(told).into_iter().collect()
+    words.map(|words| Advice { slot: limit.slot, words }).into_iter().collect()
+}
+
+/// Of a limit that is not beyond an edge of these bands.
+fn trips_in_band(list: &[u32], limit: &Limit, bands: &str) -> String {
+    let [beyond, _, edge, side, ..] = limit.words;
+    let (name, watch, delay) = (TABLE[limit.slot].name, TABLE[limit.watch].name, said(list, limit.delay));
+    let blocked = blocking(list, at("XB15"), ", and from the trip on automatic is blocked");
+    format!(
+        "is not {beyond} the {edge} edge of the band of {bands}: a voltage that is only {side} trips after \
+         {delay}{blocked}; set {name} {beyond} it, or write {watch} = off"
+    )
+}
+
+/// Of a limit that drops out only on the other side of an edge of these bands, or at it.
+fn stays_tripped(list: &[u32], limit: &Limit, bands: &str) -> String {
+    let [beyond, back, edge, side, moved, further] = limit.words;
+    let (name, watch) = (TABLE[limit.slot].name, TABLE[limit.watch].name);
+    let volts = |number: u32| value::text(&TABLE[limit.slot], number);
+    let (percent, end, sound) = (limit.drop_out * 5, volts(list[limit.slot] * limit.drop_out / 20), volts(limit.sound(list)));
+    format!(
+        "drops out at {percent} %, which is not {beyond} the {edge} edge of the band of {bands}: once it has tripped, automatic \
+         stays blocked until U_AB is {back} {end}, so that a voltage that is {side} is not {moved}; \
+         set {name} to {sound} or {further}, or write {watch} = off"
+    )
 }
 
 /// What a trip does to automatic, by the slot that says it.
@@ -173,7 +277,11 @@ fn crossed(list: &[u32], [over, watch_over]: [usize; 2], [under, watch_under]: [
     })
 }
 
+/// With XB3 a load under I_set3 is not watched.
 fn loads_crossed(list: &[u32]) -> Vec<Advice> {
+    if is(list, at("XB3"), "on") {
+        return Vec::new();
+    }
     crossed(list, [at("I_set2"), at("XB8")], [at("I_set3"), at("XB9")], at("XB14"))
 }
 
@@ -194,22 +302,34 @@ fn always_accelerated(list: &[u32]) -> Vec<Advice> {
     bands(list, upper, |edge| list[limit] <= edge).map(told).into_iter().collect()
 }
 
+/// T2 has no part in continuous regulation.
 fn slow_acceleration(list: &[u32]) -> Vec<Advice> {
-    let (t1, t3) = (at("T1"), at("T3"));
-    when(list[t3] > list[t1], t3, || {
-        let (t1, limit) = (said(list, t1), said(list, at("U_set5")));
-        format!(
-            "is longer than {t1}: a voltage above {limit} waits longer for its lower than one that is only high; \
-             set T3 below T1"
-        )
-    })
+    let (t1, t2, t3) = (at("T1"), at("T2"), at("T3"));
+    let (names, settings, lower) = match (list[t3] > list[t1], list[t3] > list[t2] && !is_continuous(list)) {
+        (false, false) => return Vec::new(),
+        (false, true) => ("T2", said(list, t2), "repeated lower"),
+        (true, true) => ("T1 and T2", format!("{} and {}", said(list, t1), said(list, t2)), "lower"),
+        (true, false) if is_continuous(list) => ("T1", said(list, t1), "lower"),
+        (true, false) => ("T1", said(list, t1), "first lower"),
+    };
+    let limit = said(list, at("U_set5"));
+    let words = format!(
+        "is longer than {settings}: a voltage above {limit} waits longer for its {lower} than one that is only high; \
+         set T3 below {names}"
+    );
+    vec![Advice { slot: t3, words }]
 }
 
 fn fast_or_long(list: &[u32]) -> Vec<Advice> {
     let (t4, t6) = (at("T4"), at("T6"));
-    when(!is_continuous(list) && list[t6] > list[t4], t6, || {
-        let t4 = said(list, t4);
-        format!("is above {t4}: each commanded move is a fault, 'fast' up to T4 and 'long' beyond; set T6 below T4")
+    when(!is_continuous(list) && list[t6] >= list[t4], t6, || match list[t6] == list[t4] {
+        true => "is as long as T4: a commanded move that does not last just so long is a fault, 'fast' if it is shorter and \
+                 'long' if it is longer; set T6 below T4"
+            .to_string(),
+        false => {
+            let t4 = said(list, t4);
+            format!("is above {t4}: each commanded move is a fault, 'fast' up to T4 and 'long' beyond; set T6 below T4")
+        }
     })
 }
 
