@@ -46,10 +46,7 @@ impl Sheet {
 
     /// Words about a slot, with the line that gives it its number.
     pub fn says(&self, file: &File, slot: usize, words: &str) -> String {
-        match self.line(slot) {
-            Some(line) => file.says_at(line, words),
-            None => file.says(words),
-        }
+        says(file, self.line(slot), words)
     }
 
     /// What the file gives, in words.
@@ -64,18 +61,37 @@ impl Sheet {
     }
 }
 
-/// Reads a sheet, as text or as a SHEET; a file with a zero byte is no text.
-pub fn read(file: &File) -> Result<Sheet, Errors> {
-    let sheet = match file.bytes.contains(&0) {
-        true => from_bytes(file),
-        false => from_text(file),
-    };
-    sheet.and_then(|sheet| judged(file, sheet)).map_err(|errors| file.first_of(errors))
+/// Words about a file, with the line that they are about, if there is one.
+fn says(file: &File, line: Option<usize>, words: &str) -> String {
+    match line {
+        Some(line) => file.says_at(line, words),
+        None => file.says(words),
+    }
 }
 
-/// Reads a SHEET.
+/// Reads a sheet, as text or as a SHEET; a file with a zero byte is no text, unless it is in UTF-16.
+pub fn read(file: &File) -> Result<Sheet, Errors> {
+    match file.bytes.contains(&0) || is_utf16(&file.bytes) {
+        true => read_binary(file),
+        false => from_text(file),
+    }
+}
+
+/// Reads a SHEET. One without a zero byte would have each number out of range.
 pub fn read_binary(file: &File) -> Result<Sheet, Errors> {
-    from_bytes(file).and_then(|sheet| judged(file, sheet)).map_err(|errors| file.first_of(errors))
+    let is_text = !file.bytes.is_empty() && !file.bytes.contains(&0) && std::str::from_utf8(&file.bytes).is_ok();
+    if is_utf16(&file.bytes) {
+        return Err(vec![file.says("this is text in UTF-16; save it as UTF-8")]);
+    }
+    if is_text {
+        return Err(vec![file.says("this is text and no SHEET; `avr sheet check` reads it")]);
+    }
+    judged(file, from_bytes(file)?, Vec::new(), &[])
+}
+
+/// Whether a file begins as a text in UTF-16 does, of either order of bytes. A SHEET that is taken begins with 0 or 1.
+fn is_utf16(bytes: &[u8]) -> bool {
+    bytes.starts_with(&[0xff, 0xfe]) || bytes.starts_with(&[0xfe, 0xff])
 }
 
 /// A SHEET of another length is a list of another length; the library has the word.
@@ -93,28 +109,32 @@ pub fn to_bytes(list: &[u32]) -> Vec<u8> {
     list.iter().flat_map(|number| number.to_le_bytes()).collect()
 }
 
+/// The line and the value of each setting that a text names.
+type Texts = [Option<(usize, String)>; SLOTS];
+
+/// What is wrong with a sheet: its line, if it has one, and words.
+type Wrong = (Option<usize>, String);
+
 fn from_text(file: &File) -> Result<Sheet, Errors> {
-    let mut texts: [Option<(usize, String)>; SLOTS] = std::array::from_fn(|_| None);
-    let mut errors: Vec<(usize, String)> = Vec::new();
+    let mut texts: Texts = std::array::from_fn(|_| None);
+    let mut errors: Vec<Wrong> = Vec::new();
     for (line, text) in file.lines()? {
-        errors.extend(take_line(&mut texts, line, text).err().map(|words| (line, words)));
+        errors.extend(take_line(&mut texts, line, text).err().map(|words| (Some(line), words)));
     }
     if errors.is_empty() && texts.iter().all(Option::is_none) {
         return Err(vec![file.says(NO_SETTING)]);
     }
-    let sheet = numbers(&texts, &mut errors);
-    errors.sort_by_key(|(line, _)| *line);
-    match errors.is_empty() {
-        true => Ok(sheet),
-        false => Err(errors.iter().map(|(line, words)| file.says_at(*line, words)).collect()),
-    }
+    let (sheet, bad) = numbers(&texts);
+    let slots: Vec<usize> = bad.iter().map(|(slot, _)| *slot).collect();
+    errors.extend(bad.into_iter().map(|(slot, words)| (sheet.line(slot), words)));
+    judged(file, sheet, errors, &slots)
 }
 
 /// What is told of a text without a setting.
 const NO_SETTING: &str = "no setting is named in it: begin with what `avr sheet template` prints, or with one line, `XB1 = on`";
 
 /// Notes the value of one line: its slot, its line and its text.
-fn take_line(texts: &mut [Option<(usize, String)>; SLOTS], line: usize, text: &str) -> Result<(), String> {
+fn take_line(texts: &mut Texts, line: usize, text: &str) -> Result<(), String> {
     let text = text.split('#').next().unwrap_or("").trim();
     if text.is_empty() {
         return Ok(());
@@ -122,9 +142,6 @@ fn take_line(texts: &mut [Option<(usize, String)>; SLOTS], line: usize, text: &s
     let (name, value) = text.split_once('=').ok_or_else(|| format!("`{}` is not `name = value`", shown::text(text)))?;
     let (name, value) = (name.trim(), value.trim());
     let slot = names::find(name).ok_or_else(|| unknown(name))?;
-    if value.is_empty() {
-        return Err(format!("{name} has no value"));
-    }
     if let Some((before, _)) = &texts[slot] {
         return Err(format!("{name} is given again; line {before} gives it too"));
     }
@@ -140,37 +157,64 @@ fn unknown(name: &str) -> String {
     format!("no setting is called `{}`{near}", shown::text(name))
 }
 
-/// The numbers of the texts. The module comes first: defaults and ranges of currents and impedances hang on it.
-fn numbers(texts: &[Option<(usize, String)>; SLOTS], errors: &mut Vec<(usize, String)>) -> Sheet {
+/// The sheet of the texts, and the slots whose text is no value, with why; they have their defaults. The module comes first:
+/// defaults and ranges of currents and impedances hang on it.
+fn numbers(texts: &Texts) -> (Sheet, Vec<(usize, String)>) {
     let module = match &texts[MODULE] {
-        Some((_, text)) => value::number(&TABLE[MODULE], text).unwrap_or(0),
+        Some((_, text)) => value::number(&TABLE[MODULE], text).unwrap_or(TABLE[MODULE].default),
         None => TABLE[MODULE].default,
     };
-    let mut lines = vec![None; SLOTS];
-    let mut list = Vec::with_capacity(SLOTS);
-    for (at, slot) in TABLE.iter().enumerate() {
-        let Some((line, text)) = &texts[at] else {
-            list.push(slot.default_for(module));
-            continue;
-        };
-        lines[at] = Some(*line);
-        list.push(value::number(slot, text).unwrap_or_else(|why| {
-            let (text, takes) = (shown::text(text), value::range(slot, module));
-            errors.push((*line, format!("{} = {text}: {why}; it {takes} (slot {at})", slot.name)));
-            0
-        }));
+    let mut list: Vec<u32> = TABLE.iter().map(|slot| slot.default_for(module)).collect();
+    let mut bad = Vec::new();
+    for (at, text) in texts.iter().enumerate() {
+        let Some((_, text)) = text else { continue };
+        match number(at, text, module) {
+            Ok(number) => list[at] = number,
+            Err(words) => bad.push((at, words)),
+        }
     }
-    Sheet { list, origin: Origin::Text(lines) }
+    let lines = texts.iter().map(|text| text.as_ref().map(|(line, _)| *line)).collect();
+    (Sheet { list, origin: Origin::Text(lines) }, bad)
 }
 
-/// The sheet, if the library takes it.
-fn judged(file: &File, sheet: Sheet) -> Result<Sheet, Errors> {
-    let told = |refusal: Refusal| sheet.says(file, refusal.slot as usize, &explain(&sheet.list, refusal));
-    let errors: Errors = refusals(&sheet.list).into_iter().map(told).collect();
+/// The number of a slot's text, or in words why it is none.
+fn number(at: usize, text: &str, module: u32) -> Result<u32, String> {
+    let slot = &TABLE[at];
+    if text.is_empty() {
+        return Err(format!("{} has no value", slot.name));
+    }
+    value::number(slot, text).map_err(|why| {
+        let (text, takes) = (shown::text(text), value::range(slot, module));
+        format!("{} = {text}: {why}; it {takes} (slot {at})", slot.name)
+    })
+}
+
+/// The sheet, if nothing is wrong with its text and the library takes it. Else all that is wrong, from the top of the text to its
+/// end; the slots of `bad` have a text that is no value.
+fn judged(file: &File, sheet: Sheet, mut errors: Vec<Wrong>, bad: &[usize]) -> Result<Sheet, Errors> {
+    let told = |refusal: Refusal| (sheet.line(refusal.slot as usize), explain(&sheet.list, refusal));
+    errors.extend(sure_refusals(&sheet.list, bad).into_iter().map(told));
+    errors.sort_by_key(|(line, _)| line.unwrap_or(usize::MAX));
     match errors.is_empty() {
         true => Ok(sheet),
-        false => Err(errors),
+        false => Err(file.first_of(errors.iter().map(|(line, words)| says(file, *line, words)).collect())),
     }
+}
+
+/// The refusals that come whatever is meant by the texts that are no values: the order of the taps hangs on each of them, and a
+/// range on the module. A counted tap is not refused beside a default of XB2 or XB6.
+fn sure_refusals(list: &[u32], bad: &[usize]) -> Vec<Refusal> {
+    let mut found = refusals(list);
+    if bad.iter().any(|slot| (N_POS..=N_L).contains(slot)) {
+        found.retain(|refusal| refusal.number != TAP_ORDER);
+    }
+    if bad.contains(&MODULE) {
+        let mut other = list.to_vec();
+        other[MODULE] = 1 - list[MODULE];
+        let other = refusals(&other);
+        found.retain(|refusal| other.contains(refusal));
+    }
+    found
 }
 
 /// Each refusal of a list, all from the library: what it names gets its default, and the list is tried again. Defaults are in
@@ -205,7 +249,7 @@ pub fn explain(list: &[u32], refusal: Refusal) -> String {
     let Refusal { number, slot } = refusal;
     let tail = format!("(refusal {number}, slot {slot})");
     if number == LENGTH {
-        return format!("the list has {} numbers, a sheet has {SLOTS} {tail}", list.len());
+        return format!("the list has {}, a sheet has {SLOTS} {tail}", counted(list.len(), "number"));
     }
     let at = slot as usize;
     let (name, value) = (TABLE[at].name, value::text(&TABLE[at], list[at]));

@@ -374,7 +374,8 @@ fn a_list_of_another_length_is_told() {
         let list = vec![0; length];
         let refusal = Refusal { number: 1, slot: 0 };
         assert_eq!(refusals(&list), [refusal]);
-        assert_eq!(explain(&list, refusal), format!("the list has {length} numbers, a sheet has {SLOTS} (refusal 1, slot 0)"));
+        let numbers = if length == 1 { "1 number".to_string() } else { format!("{length} numbers") };
+        assert_eq!(explain(&list, refusal), format!("the list has {numbers}, a sheet has {SLOTS} (refusal 1, slot 0)"));
     }
     let (short, odd) = (sheet::BYTES - 4, sheet::BYTES - 1);
     let told = sheet::read_binary(&bytes(vec![0; short])).expect_err("a number less");
@@ -387,7 +388,49 @@ fn a_list_of_another_length_is_told() {
 fn all_refusals_are_told_at_once() {
     let told = problems("T1 = 0\nU_supp2 = 200\nN_R = 41\nN_L = 40");
     let slots: Vec<&str> = told.iter().map(|line| line.rsplit(' ').next().unwrap_or("")).collect();
-    assert_eq!(slots, ["20)", "33)", "49)"]);
+    assert_eq!(slots, ["33)", "20)", "49)"]);
+}
+
+/// The line and the slot of each error that has a slot, of all errors of a text.
+fn places(text: &str) -> Vec<String> {
+    let place = |words: &String| {
+        let line = words.split(": ").next().unwrap_or_default();
+        let slot = words.rsplit_once("slot ").map(|(_, slot)| slot.trim_end_matches(')')).unwrap_or_default();
+        format!("{line} {slot}")
+    };
+    problems(text).iter().map(place).collect()
+}
+
+#[test]
+fn refusals_are_told_beside_texts_that_are_no_values() {
+    for (text, wanted) in [
+        ("U_supp4 = 100.05\nT1 = abc\nT2 = 500", vec!["file:1 22", "file:2 33", "file:3 34"]),
+        ("T2 = 500\nT1 =\nfly\nT3 = 0\nU_supp4 = 100.05", vec!["file:1 34", "file:2 ", "file:3 ", "file:4 35", "file:5 22"]),
+        ("T1 = abc\nN_R = 19", vec!["file:1 33", "file 48"]),
+        ("N_R = 19\nT1 = abc\nfly", vec!["file:2 33", "file:3 ", "file 48"]),
+        ("XB1 = yes\nXB6 = counted\nXB2 = continuous", vec!["file:1 0", "file:3 63"]),
+    ] {
+        assert_eq!(places(text), wanted, "{text}");
+    }
+}
+
+/// A text that is no value stands for any.
+#[test]
+fn what_hangs_on_a_text_that_is_no_value_is_not_told() {
+    for (text, wanted) in [
+        ("N_R = x\nN_L = 40", vec!["file:1 49"]),
+        ("N_R =\nN_L = 40", vec!["file:1 "]),
+        ("N_L = x\nN_R = 19", vec!["file:1 50"]),
+        ("N_pos = x\nN_R = 19", vec!["file:1 48"]),
+        ("N_pos = x\nN_R = 41", vec!["file:1 48", "file:2 49"]),
+        ("XB6 = x\nXB2 = continuous", vec!["file:1 5"]),
+        ("XB2 = x\nXB6 = counted", vec!["file:1 63"]),
+        ("I_nom = x\nI_set1 = 50 A", vec!["file:1 1"]),
+        ("I_nom = x\nI_set3 = 0.1 A\nX_set = 81 ohm", vec!["file:1 1"]),
+        ("I_nom = x\nI_set1 = 201 A\nT1 = 0", vec!["file:1 1", "file:2 25", "file:3 33"]),
+    ] {
+        assert_eq!(places(text), wanted, "{text}");
+    }
 }
 
 /// The number and slot of each refusal of a text, in the order in which they are told.
@@ -400,10 +443,10 @@ fn numbers(text: &str) -> Vec<String> {
 fn orders_between_settings_are_told_with_the_ranges() {
     let continuous = "XB2 = continuous\nXB6 = counted\n";
     for (text, wanted) in [
-        ("T1 = 0", vec!["2, slot 33", "5, slot 63"]),
-        ("N_R = 9", vec!["3, slot 48", "5, slot 63"]),
-        ("T1 = 0\nN_L = 9\nN_R = 9\nN_pos = 9", vec!["2, slot 33", "3, slot 49", "5, slot 63"]),
-        ("N_R = 41\nN_L = 40", vec!["2, slot 49", "5, slot 63"]),
+        ("T1 = 0", vec!["5, slot 63", "2, slot 33"]),
+        ("N_R = 9", vec!["5, slot 63", "3, slot 48"]),
+        ("T1 = 0\nN_L = 9\nN_R = 9\nN_pos = 9", vec!["5, slot 63", "2, slot 33", "3, slot 49"]),
+        ("N_R = 41\nN_L = 40", vec!["5, slot 63", "2, slot 49"]),
     ] {
         assert_eq!(numbers(&format!("{continuous}{text}")), wanted, "{text}");
     }
@@ -517,12 +560,12 @@ fn text_of_the_file_is_cut_and_plain_in_errors() {
     }
 }
 
-/// Bad lines and bad values in the order in which they stand.
+/// Bad lines, bad values and refusals in the order in which they stand.
 #[test]
 fn errors_of_a_sheet_are_told_from_its_top_to_its_end() {
-    let told = sheet::read(&file("T2 = x\nfly\nT1 = y\nT1 = 3\n")).expect_err("a bad sheet");
+    let told = sheet::read(&file("T2 = x\nfly\nT4 = 0\nT1 = y\nT1 = 3\n")).expect_err("a bad sheet");
     let heads: Vec<&str> = told.iter().map(|words| &words[..6]).collect();
-    assert_eq!(heads, ["file:1", "file:2", "file:3", "file:4"], "{told:?}");
+    assert_eq!(heads, ["file:1", "file:2", "file:3", "file:4", "file:5"], "{told:?}");
 }
 
 #[test]
@@ -575,6 +618,31 @@ fn a_difference_is_told_with_both_values_and_the_meaning() {
 fn a_file_that_is_no_text_is_told() {
     let told = sheet::read(&bytes(b"XB1 = on\nT1 = \xff\n".to_vec())).expect_err("no text");
     assert_eq!(told, ["file:2: this is no text (not UTF-8)"]);
+}
+
+#[test]
+fn a_text_in_utf_16_is_told() {
+    let told = "file: this is text in UTF-16; save it as UTF-8";
+    let marked = |text: &str| std::iter::once(0xfeff).chain(text.encode_utf16()).collect::<Vec<u16>>();
+    for text in ["XB1 = on\r\nT1 = 20 s\r\n", "XB1 = on", "\u{432}\u{43a}"] {
+        let least_first: Vec<u8> = marked(text).iter().flat_map(|unit| unit.to_le_bytes()).collect();
+        let most_first: Vec<u8> = marked(text).iter().flat_map(|unit| unit.to_be_bytes()).collect();
+        for file in [least_first, most_first].map(bytes) {
+            assert_eq!(sheet::read(&file).expect_err("no UTF-8"), [told]);
+            assert_eq!(sheet::read_binary(&file).expect_err("no SHEET"), [told]);
+        }
+    }
+}
+
+#[test]
+fn a_text_in_place_of_a_sheet_is_told() {
+    for text in [template(0), "XB1 = on".to_string(), "x".repeat(sheet::BYTES), "\u{feff}XB1 = on # Ω".to_string()] {
+        let told = sheet::read_binary(&file(&text)).expect_err("a text");
+        assert_eq!(told, ["file: this is text and no SHEET; `avr sheet check` reads it"]);
+    }
+    for (binary, told) in [(vec![], "file: the list has 0 numbers, "), (vec![0xff; 4], "file: the list has 1 number, ")] {
+        assert!(sheet::read_binary(&bytes(binary)).expect_err("no list")[0].starts_with(told), "{told}");
+    }
 }
 
 #[test]
