@@ -66,9 +66,11 @@ pub fn number(slot: &Slot, text: &str) -> Result<u32, String> {
     }
 }
 
+/// `5 A` may be written without its unit, as a number may.
 fn from_words(words: &[&str], text: &str) -> Result<u32, String> {
     let plain = squeeze(text);
-    match words.iter().position(|word| squeeze(word) == plain) {
+    let number = |word: &str| word.split(' ').next() == Some(&plain);
+    match words.iter().position(|word| squeeze(word) == plain || number(word)) {
         Some(at) => Ok(at as u32),
         None => Err("is none of its words".to_string()),
     }
