@@ -5,7 +5,7 @@ use crate::rows;
 use crate::value;
 
 /// The modules by their rated current, as a command line names them.
-pub const MODULES: [(&str, u32); 4] = [("1", 0), ("5", 1), ("1 A", 0), ("5 A", 1)];
+pub const MODULES: [(&str, u32); 6] = [("1", 0), ("5", 1), ("1 A", 0), ("5 A", 1), ("1A", 0), ("5A", 1)];
 
 /// The sheet of defaults for a module, as text.
 pub fn template(module: u32) -> String {

@@ -600,7 +600,16 @@ fn the_template_has_the_ranges_of_its_module() {
     ] {
         assert!(template(module).contains(&format!("\n{row}")), "{row}\n{}", template(module));
     }
-    MODULES.iter().for_each(|(word, module)| assert_eq!(word.trim_end_matches(" A"), rated_amps(*module).to_string()));
+}
+
+/// A command line takes what a sheet takes.
+#[test]
+fn a_module_is_named_with_its_unit_and_without() {
+    assert_eq!(MODULES.map(|(word, _)| word), ["1", "5", "1 A", "5 A", "1A", "5A"]);
+    for (word, module) in MODULES {
+        assert_eq!(word.trim_end_matches([' ', 'A']), rated_amps(module).to_string());
+        assert_eq!(slot_of(&format!("I_nom = {word}"), MODULE), module, "{word}");
+    }
 }
 
 #[test]
