@@ -16,6 +16,9 @@ pub const STANDARD: &str = "-";
 pub const SHEET_MOST: u64 = 1;
 pub const SCENARIO_MOST: u64 = 256;
 
+/// What is said of a text in UTF-16.
+pub const UTF16: &str = "this is text in UTF-16; save it as UTF-8";
+
 /// The most errors of a file that are told one by one.
 pub const MOST_ERRORS: usize = 20;
 
@@ -50,6 +53,11 @@ impl File {
         format!("{}:{line}: {words}", self.name)
     }
 
+    /// Whether it begins as a text in UTF-16 does, of either order of bytes.
+    pub fn is_utf16(&self) -> bool {
+        self.bytes.starts_with(&[0xff, 0xfe]) || self.bytes.starts_with(&[0xfe, 0xff])
+    }
+
     /// The first errors, and how many more there are.
     pub fn first_of(&self, mut errors: Errors) -> Errors {
         let more = errors.len().saturating_sub(MOST_ERRORS);
@@ -66,6 +74,7 @@ impl File {
     pub fn lines(&self) -> Result<impl Iterator<Item = (usize, &str)>, Errors> {
         match std::str::from_utf8(&self.bytes) {
             Ok(text) => Ok(text.trim_start_matches('\u{feff}').lines().enumerate().map(|(at, line)| (at + 1, line))),
+            Err(_) if self.is_utf16() => Err(vec![self.says(UTF16)]),
             Err(error) => {
                 let before = &self.bytes[..error.valid_up_to()];
                 let line = 1 + before.iter().filter(|&&b| b == b'\n').count();

@@ -2,7 +2,7 @@
 
 use library::SLOTS;
 
-use crate::file::{Errors, File};
+use crate::file::{Errors, File, UTF16};
 use crate::inputs::{I_BUS_PAIR, I_COUPLER_PAIR, U_AB_PAIR};
 use crate::names::{
     self, ABSENT, COMPENSATION, COMPENSATION_CURRENT, CONTINUOUS, D_U, MODULE, N_L, N_POS, N_R, TABLE, TAP_SOURCE,
@@ -71,7 +71,7 @@ fn says(file: &File, line: Option<usize>, words: &str) -> String {
 
 /// Reads a sheet, as text or as a SHEET; a file with a zero byte is no text, unless it is in UTF-16.
 pub fn read(file: &File) -> Result<Sheet, Errors> {
-    match file.bytes.contains(&0) || is_utf16(&file.bytes) {
+    match file.bytes.contains(&0) {
         true => read_binary(file),
         false => from_text(file),
     }
@@ -80,18 +80,13 @@ pub fn read(file: &File) -> Result<Sheet, Errors> {
 /// Reads a SHEET. One without a zero byte would have each number out of range.
 pub fn read_binary(file: &File) -> Result<Sheet, Errors> {
     let is_text = !file.bytes.is_empty() && !file.bytes.contains(&0) && std::str::from_utf8(&file.bytes).is_ok();
-    if is_utf16(&file.bytes) {
-        return Err(vec![file.says("this is text in UTF-16; save it as UTF-8")]);
+    if file.is_utf16() {
+        return Err(vec![file.says(UTF16)]);
     }
     if is_text {
         return Err(vec![file.says("this is text and no SHEET; `avr sheet check` reads it")]);
     }
     judged(file, from_bytes(file)?, Vec::new(), &[])
-}
-
-/// Whether a file begins as a text in UTF-16 does, of either order of bytes. A SHEET that is taken begins with 0 or 1.
-fn is_utf16(bytes: &[u8]) -> bool {
-    bytes.starts_with(&[0xff, 0xfe]) || bytes.starts_with(&[0xfe, 0xff])
 }
 
 /// A SHEET of another length is a list of another length; the library has the word.

@@ -134,14 +134,14 @@ fn a_template_is_printed_or_written_for_a_module() {
     let folder = Folder::new("template");
     let target = folder.path("a.txt");
     assert!(out(&avr(&["sheet", "template"])).contains("\nI_nom      = 1 A "));
-    for module in ["5", "5 A"] {
+    for module in ["5", "5 A", "5A"] {
         let output = avr(&["sheet", "template", "--module", module, "-o", &target]);
         assert_eq!((err(&output), output.status.code()), (format!("avr: the template is in {target}\n"), Some(0)));
         assert_eq!(fs::read_to_string(&target).expect("a template"), out(&avr(&["sheet", "template", "--module=5"])));
         assert_eq!(avr(&["sheet", "check", &target]).status.code(), Some(0));
     }
     let output = avr(&["sheet", "template", "--module", "7\u{1b}"]);
-    let told = "avr: --module takes 1 or 5 or 1 A or 5 A, and not `7\\u{1b}`\n";
+    let told = "avr: --module takes 1 or 5 or 1 A or 5 A or 1A or 5A, and not `7\\u{1b}`\n";
     assert!(err(&output).starts_with(told), "{}", err(&output));
     assert_eq!(output.status.code(), Some(2));
 }

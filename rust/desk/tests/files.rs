@@ -350,6 +350,15 @@ fn bad_text_is_cut_and_escaped() {
 }
 
 #[test]
+fn a_scenario_in_utf16_is_told() {
+    let desk = Desk::new("utf16");
+    let scenario: Vec<u8> = "\u{feff}seconds,U_AB\n".encode_utf16().flat_map(u16::to_le_bytes).collect();
+    let csv = desk.folder.write("c", scenario);
+    let told = format!("avr: {csv}: this is text in UTF-16; save it as UTF-8\n");
+    assert_eq!(err(&avr(&["scenario", "write", &csv, "-o", "x"])), told);
+}
+
+#[test]
 fn not_all_of_many_errors_are_told() {
     let desk = Desk::new("many");
     let rows: String = (1..=1000).map(|row| format!("{row},high\n")).collect();
