@@ -16,9 +16,9 @@ use Rattle.sheet.specs.declared.Answer.the-variants.{Taken, WrongLength, OutOfR
 use Rattle.sheet.specs.Settings.{Settings}
 use Rattle.sheet.specs.Sheet.{numberOf}
 use Rattle.claim.specs.Claim.{Kept}
-use Rattle.regulator.specs.Ticks.{refusedOf, tickOf}
-use Rattle.regulator.proofs.Next.{tick-lasting}
-use Rattle.regulator.proofs.Steps.{accepted-is}
+use Rattle.rules.specs.Ticks.{refusedOf, tickOf}
+use Rattle.rules.proofs.Next.{tick-lasting}
+use Rattle.rules.proofs.Steps.{accepted-is}
 use Rattle.image.specs.declared.FromImage.{FromImage}
 use Rattle.image.specs.declared.Image.{Image}
 use Rattle.image.specs.declared.bringing.Brought.{Brought}

@@ -14,9 +14,9 @@ use Rattle.command.specs.declared.Wait.the-variants.{Idle, For}
 use Rattle.record.specs.declared.Regulator.{Regulator}
 use Rattle.record.specs.Limits.{withinOf}
 use Rattle.claim.specs.Claim.{Tick, All, Kept}
-use Rattle.regulator.specs.Ticks.{tickOf}
-use Rattle.regulator.specs.Lists.{seen, ticksFrom, opening}
-use Rattle.regulator.proofs.Claim.{kept}
+use Rattle.rules.specs.Ticks.{tickOf}
+use Rattle.rules.specs.Lists.{seen, ticksFrom, opening}
+use Rattle.rules.proofs.Claim.{kept}
 use Rattle.coding.specs.Numbers.{driveImage, waitImage}
 use Rattle.image.specs.declared.Image.{Image}
 use Rattle.image.specs.declared.bringing.Brought.{Brought}

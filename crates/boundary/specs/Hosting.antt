@@ -7,8 +7,8 @@ use Rattle.common.specs.Choice.{choose}
 use Rattle.record.specs.declared.Regulator.{Regulator}
 use Rattle.record.specs.Limits.{withinOf}
 use Rattle.record.specs.Starting.{Start}
-use Rattle.regulator.specs.declared.Ticked.{Ticked}
-use Rattle.regulator.specs.Ticks.{tickOf}
+use Rattle.rules.specs.declared.Ticked.{Ticked}
+use Rattle.rules.specs.Ticks.{tickOf}
 use Rattle.image.specs.declared.Image.{Image}
 use Rattle.image.specs.declared.bringing.Brought.{Brought}
 use Rattle.image.specs.Images.{imageOf, recordOf}

@@ -1,4 +1,4 @@
--- Lists that the rules give (`regulator/proofs/Worked.antt`), what demand 3 says of them, and that its bounds are reached.
+-- Lists that the rules give (`rules/proofs/Worked.antt`), what demand 3 says of them, and that its bounds are reached.
 -- Assumes nothing.
 use Prim.Native.Nat.{ℕ, _+_}
 use native.Mathlib.Omega.{arith}

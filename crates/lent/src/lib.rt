@@ -3,11 +3,11 @@ ghost use mathlib.Core.Path.{_≡_};
 ghost use mathlib.Core.List.{List};
 ghost use Rattle.record.specs.Limits.{withinOf};
 ghost use Rattle.claim.specs.Claim.{Kept};
-ghost use Rattle.regulator.specs.Ticks.{tickOf};
-ghost use Rattle.regulator.specs.Lists.{listFrom, opening};
+ghost use Rattle.rules.specs.Ticks.{tickOf};
+ghost use Rattle.rules.specs.Lists.{listFrom, opening};
 use input::Input;
 use record::Regulator;
-use regulator::Reply;
+use rules::Reply;
 
 // One tick of the lent record. Afterwards the record is the next one; on refusal it is as it was. The clauses are `tick`'s.
 pub fn tick_lent(r: &mut Regulator, i: Input) -> Reply

@@ -3,53 +3,23 @@ ghost use mathlib.Core.Path.{_≡_};
 ghost use mathlib.Core.List.{List};
 ghost use Rattle.record.specs.Limits.{withinOf};
 ghost use Rattle.claim.specs.Claim.{Kept};
-ghost use Rattle.regulator.specs.Lists.{listFrom, opening};
-ghost use Rattle.regulator.specs.Ticks.{sensedOf, findingOf, memoryOf, actedOf, shownOf, nextOf, ranOf, outOf, refusedOf, tickOf};
-use acting::accounting::Accounted;
+ghost use Rattle.rules.specs.Lists.{listFrom, opening};
+ghost use Rattle.rules.specs.Ticks.{sensedOf, findingOf, memoryOf, actedOf, shownOf, nextOf, ranOf, outOf, refusedOf, tickOf};
 use acting::commanding::Memory;
-use acting::commanding::Regulated;
 use acting::judging::Finding;
-use acting::supervising::Supervised;
-use blocks::Blocks;
 use input::Contacts;
 use input::Input;
-use organ::Organs;
 use record::Regulator;
-use sensing::assessing::Assessed;
-use sensing::observing::Observed;
+use rules::Acted;
+use rules::Reply;
+use rules::Sensed;
+use rules::Ticked;
 use showing::FIELDS;
 use showing::Shown;
 use slots::IN_SERVICE;
 
 // All outputs 0.
 const ALL_OFF: [u32; FIELDS] = [0u32; FIELDS];
-
-// What a tick answers: 0, or the refusal 4 with outputs all 0.
-pub struct Reply {
-    pub refusal: u32,
-    pub outputs: [u32; FIELDS],
-}
-
-// The answer, and the next record; a refused record is left as it was.
-pub struct Ticked {
-    pub reply: Reply,
-    pub next: Regulator,
-}
-
-// Rules 3 to 6.
-struct Sensed {
-    observed: Observed,
-    organs: Organs,
-    assessed: Assessed,
-}
-
-// Rules 2 and 7 to 9.
-struct Acted {
-    supervised: Supervised,
-    blocks: Blocks,
-    regulated: Regulated,
-    accounted: Accounted,
-}
 
 // Rules 3 to 6.
 fn sense(r: Regulator, i: Input, c: Contacts) -> Sensed

@@ -20,9 +20,9 @@ use Rattle.recording.specs.Recorded.{tickBytes, decodedOf}
 use Rattle.recording.proofs.Texts.{most-digits}
 use Rattle.recording.proofs.Made.{cut-short}
 use Rattle.showing.specs.Showing.{fieldCount, fieldsOf, outputsOf}
-use Rattle.regulator.specs.declared.Ticked.{Ticked}
-use Rattle.regulator.specs.Ticks as ticks
-use Rattle.regulator.specs.Ticks.{ranOf, outOf, refusedOf, tickOf}
+use Rattle.rules.specs.declared.Ticked.{Ticked}
+use Rattle.rules.specs.Ticks as ticks
+use Rattle.rules.specs.Ticks.{ranOf, outOf, refusedOf, tickOf}
 use Rattle.replay.specs.declared.running.Stepped.{Stepped}
 use Rattle.replay.specs.Played.{Played, lineRoom, lineAt, playedOn, playedTo, playFrom, playedOf, stepOf, linesOf}
 

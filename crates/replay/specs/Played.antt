@@ -11,7 +11,7 @@ use Rattle.recording.specs.declared.ticks.Decoded.the-variants.{Tick, BadQualit
 use Rattle.showing.specs.Showing.{fieldCount}
 use Rattle.recording.specs.Lines.{widest, lineOf, placed}
 use Rattle.recording.specs.Recorded.{tickBytes, decodedOf}
-use Rattle.regulator.specs.Ticks.{tickOf}
+use Rattle.rules.specs.Ticks.{tickOf}
 use Rattle.replay.specs.declared.running.Stepped.{Stepped}
 
 -- the record after some ticks, the bytes that they took, and their lines

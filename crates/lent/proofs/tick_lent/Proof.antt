@@ -36,20 +36,20 @@ use denote.Triple.Walked.{Stays, stay-ref, stay-none, walkOf, goes-none, goes-re
 use denote.Exit.{yes}
 use Rattle.common.proofs.Walks.{says-all, beside}
 use Rattle.lent.proofs.AnyTypes.{walks}
-use Rattle.regulator.specs.Ticks.{tickOf}
+use Rattle.rules.specs.Ticks.{tickOf}
 use Rattle.record.specs.declared.Regulator.{Regulator}
 use Rattle.input.specs.declared.Input.{Input}
-use Rattle.regulator.specs.declared.Reply.{Reply}
-use Rattle.regulator.specs.declared.Ticked.{Ticked}
+use Rattle.rules.specs.declared.Reply.{Reply}
+use Rattle.rules.specs.declared.Ticked.{Ticked}
 use Rattle.record.proofs.Regulator as R
 use Rattle.record.proofs.Regulator.Laws as R′
 use Rattle.input.proofs.Input as T
 use Rattle.input.proofs.Input.Laws as T′
-use Rattle.regulator.proofs.Claim.{promised}
-use Rattle.regulator.proofs.Reply as O
-use Rattle.regulator.proofs.Reply.Laws as O′
-use Rattle.regulator.proofs.Ticked as X
-use Rattle.regulator.proofs.Ticked.Laws as X′
+use Rattle.rules.proofs.Claim.{promised}
+use Rattle.rules.proofs.Reply as O
+use Rattle.rules.proofs.Reply.Laws as O′
+use Rattle.rules.proofs.Ticked as X
+use Rattle.rules.proofs.Ticked.Laws as X′
 use Rattle.regulator.proofs.tick as tick
 use Rattle.regulator.proofs.tick.Symbol as tick-def
 use Rattle.regulator.proofs.tick.Symbol.{name as #regulator·tick}

@@ -1,4 +1,4 @@
-use Rattle.regulator.proofs.Made.{act-made}
+use Rattle.rules.proofs.Made.{act-made}
 use borrow.Author.Needs.{needs}
 use Rattle.regulator.proofs.act.Statement.{statement}
 use Rattle.regulator.proofs.act.Tie as tie

@@ -1,4 +1,4 @@
-use Rattle.regulator.proofs.Made.{live-made}
+use Rattle.rules.proofs.Made.{live-made}
 use borrow.Author.Needs.{needs}
 use Rattle.regulator.proofs.live.Statement.{statement}
 use Rattle.regulator.proofs.live.Tie as tie

@@ -1,4 +1,4 @@
-use Rattle.regulator.specs.Ticks.{nextOf, rememberedIn}
+use Rattle.rules.specs.Ticks.{nextOf, rememberedIn}
 use borrow.Author.Needs.{needs}
 use Rattle.regulator.proofs.next_of.Statement.{statement}
 use Rattle.regulator.proofs.next_of.Tie as tie

@@ -1,4 +1,4 @@
-use Rattle.regulator.specs.Ticks.{outOf}
+use Rattle.rules.specs.Ticks.{outOf}
 use borrow.Author.Needs.{needs}
 use Rattle.regulator.proofs.out_of_service.Statement.{statement}
 use Rattle.regulator.proofs.out_of_service.Tie as tie

@@ -1,4 +1,4 @@
-use Rattle.regulator.specs.Ticks.{refusedOf}
+use Rattle.rules.specs.Ticks.{refusedOf}
 use Rattle.regulator.proofs.refused.Statement.{statement}
 use Rattle.regulator.proofs.refused.Tie as tie
 

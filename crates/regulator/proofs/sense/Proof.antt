@@ -1,4 +1,4 @@
-use Rattle.regulator.proofs.Made.{sense-made}
+use Rattle.rules.proofs.Made.{sense-made}
 use borrow.Author.Needs.{needs}
 use Rattle.regulator.proofs.sense.Statement.{statement}
 use Rattle.regulator.proofs.sense.Tie as tie

@@ -1,5 +1,5 @@
-use Rattle.regulator.proofs.Claim.{promised}
-use Rattle.regulator.proofs.Next.{tick-out, tick-live, tick-refused}
+use Rattle.rules.proofs.Claim.{promised}
+use Rattle.rules.proofs.Next.{tick-out, tick-live, tick-refused}
 use borrow.Author.Needs.{needs}
 use Rattle.regulator.proofs.tick.Statement.{statement}
 use Rattle.regulator.proofs.tick.Tie as tie

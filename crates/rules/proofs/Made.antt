@@ -24,10 +24,10 @@ use Rattle.acting.specs.Judging.{blockedOf}
 use Rattle.acting.specs.Commanding.{regulatedOf}
 use Rattle.acting.specs.Accounting.{accountedOf}
 use Rattle.showing.specs.Showing.{outputsOf}
-use Rattle.regulator.specs.declared.Acted.{Acted}
-use Rattle.regulator.specs.declared.Sensed.{Sensed}
-use Rattle.regulator.specs.declared.Ticked.{Ticked}
-use Rattle.regulator.specs.Ticks.{observedIn, protectedIn, assessedIn, sensedOf, findingOf, supervisedIn, blockedIn, memoryOf, regulatedIn, accountedIn, actedOf, shownOf, nextOf, endOf, ranOf}
+use Rattle.rules.specs.declared.Acted.{Acted}
+use Rattle.rules.specs.declared.Sensed.{Sensed}
+use Rattle.rules.specs.declared.Ticked.{Ticked}
+use Rattle.rules.specs.Ticks.{observedIn, protectedIn, assessedIn, sensedOf, findingOf, supervisedIn, blockedIn, memoryOf, regulatedIn, accountedIn, actedOf, shownOf, nextOf, endOf, ranOf}
 
 module _ (r : Regulator) (i : Input) (c : Contacts) where
   pub sense-made : {o : Observed} {g : Organs} {a : Assessed}

@@ -21,10 +21,10 @@ use Rattle.record.specs.declared.Regulator.{Regulator}
 use Rattle.acting.specs.Commanding.{askOf, situationOf}
 use Rattle.acting.specs.Supervising.{contactOf}
 use Rattle.acting.proofs.EachKind.{contact-is}
-use Rattle.regulator.specs.declared.Ticked.{Ticked}
+use Rattle.rules.specs.declared.Ticked.{Ticked}
 use Rattle.claim.specs.Claim.{Lasting, closed}
-use Rattle.regulator.proofs.Shown.{contactsAt, supervisedAt, situationAt, live-drive}
-use Rattle.regulator.proofs.Steps.{tickAt, nextAt, findingAt, clearedAt, followedAt, followed-is, no-fault-before, blocks-not-local, live-of}
+use Rattle.rules.proofs.Shown.{contactsAt, supervisedAt, situationAt, live-drive}
+use Rattle.rules.proofs.Steps.{tickAt, nextAt, findingAt, clearedAt, followedAt, followed-is, no-fault-before, blocks-not-local, live-of}
 
 -- the contact as rule 7 sees it
 abbrev contactAt : Regulator → Input → Contact

@@ -39,13 +39,13 @@ use Rattle.record.specs.Limits.{withinOf}
 use Rattle.record.specs.Starting.{freshOf}
 use Rattle.acting.specs.Commanding.{askOf, situationOf}
 use Rattle.showing.specs.Showing as showing
-use Rattle.regulator.specs.declared.Ticked.{Ticked}
-use Rattle.regulator.specs.Ticks.{isOut, outOf, tickOf}
+use Rattle.rules.specs.declared.Ticked.{Ticked}
+use Rattle.rules.specs.Ticks.{isOut, outOf, tickOf}
 use Rattle.claim.specs.Claim.{commandField, blockField, sideField, modeField, delayTo, waitFor, Begins, Waiting, longest}
-use Rattle.regulator.specs.Lists.{delayIn, heldFor, opening}
-use Rattle.regulator.proofs.Next.{pass}
-use Rattle.regulator.proofs.Shown.{given, contactsAt, supervisedAt, blocksAt, situationAt, decidedAt, liveAt, onTo, live-drive, live-wait, live-on, live-automatic, live-manual, live-opposed, live-level, live-run-away, live-not-started, live-long, live-fast, flag-on, no-field, side-level}
-use Rattle.regulator.proofs.Steps.{tickAt, nextAt, restAt, waitTo, Linked, live-is, out-is, accepted-is, accepted-within, linked-kept, findingAt, clearedAt, followedAt, followed-is, no-fault-before, blocks-no-fault, blocks-not-local, Live, live-of}
+use Rattle.rules.specs.Lists.{delayIn, heldFor, opening}
+use Rattle.rules.proofs.Next.{pass}
+use Rattle.rules.proofs.Shown.{given, contactsAt, supervisedAt, blocksAt, situationAt, decidedAt, liveAt, onTo, live-drive, live-wait, live-on, live-automatic, live-manual, live-opposed, live-level, live-run-away, live-not-started, live-long, live-fast, flag-on, no-field, side-level}
+use Rattle.rules.proofs.Steps.{tickAt, nextAt, restAt, waitTo, Linked, live-is, out-is, accepted-is, accepted-within, linked-kept, findingAt, clearedAt, followedAt, followed-is, no-fault-before, blocks-no-fault, blocks-not-local, Live, live-of}
 
 -- ---- a command that begins
 

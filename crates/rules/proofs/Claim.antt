@@ -6,15 +6,15 @@ use Rattle.drive.specs.Follow.{restsOf}
 use Rattle.input.specs.declared.Input.{Input}
 use Rattle.record.specs.declared.Regulator.{Regulator}
 use Rattle.record.specs.Limits.{withinOf}
-use Rattle.regulator.specs.declared.Ticked.{Ticked}
-use Rattle.regulator.specs.Ticks.{tickOf}
+use Rattle.rules.specs.declared.Ticked.{Ticked}
+use Rattle.rules.specs.Ticks.{tickOf}
 use Rattle.claim.specs.Claim.{output, modeField, blockField, Begins, Kept}
-use Rattle.regulator.specs.Lists.{ticksFrom, listFrom, opening}
-use Rattle.regulator.proofs.Next.{tick-lasting}
-use Rattle.regulator.proofs.Steps.{Linked, never-both}
-use Rattle.regulator.proofs.Waits.{begun-free}
-use Rattle.regulator.proofs.Rows.{all-ticks, refused-of, latest-of, exactly-of}
-use Rattle.regulator.proofs.Serve.{again-of}
+use Rattle.rules.specs.Lists.{ticksFrom, listFrom, opening}
+use Rattle.rules.proofs.Next.{tick-lasting}
+use Rattle.rules.proofs.Steps.{Linked, never-both}
+use Rattle.rules.proofs.Waits.{begun-free}
+use Rattle.rules.proofs.Rows.{all-ticks, refused-of, latest-of, exactly-of}
+use Rattle.rules.proofs.Serve.{again-of}
 
 -- every list of ticks on any record keeps demand 3
 pub kept : (r : Regulator) (is : List Input) → Kept (opening r) (ticksFrom (restsOf (r .drive)) r is)

@@ -33,10 +33,10 @@ use Rattle.acting.specs.Judging.{sideOf}
 use Rattle.acting.specs.Commanding.{askOf, situationOf, decisionOf, regulatedOf}
 use Rattle.showing.specs.Showing as showing
 use Rattle.showing.specs.Showing.{isLow, isHigh, signalsOf, fieldsOf, outputsOf}
-use Rattle.regulator.specs.declared.Sensed.{Sensed}
-use Rattle.regulator.specs.declared.Ticked.{Ticked}
+use Rattle.rules.specs.declared.Sensed.{Sensed}
+use Rattle.rules.specs.declared.Ticked.{Ticked}
 use Rattle.claim.specs.Claim.{commandField, blockField, sideField}
-use Rattle.regulator.specs.Ticks.{sensedOf, supervisedIn, blockedIn, memoryOf, regulatedIn, actedOf, nextOf, endOf, ranOf}
+use Rattle.rules.specs.Ticks.{sensedOf, supervisedIn, blockedIn, memoryOf, regulatedIn, actedOf, nextOf, endOf, ranOf}
 
 -- ---- the values of the rules on a tick
 

@@ -12,9 +12,9 @@ use Rattle.record.specs.declared.Regulator.{Regulator}
 use Rattle.record.specs.Limits.{withinOf}
 use Rattle.record.specs.Starting.{freshOf}
 use Rattle.acting.proofs.Presses.{fault-drops, automatic-drops, local-drops, rest-leaves-none}
-use Rattle.regulator.specs.declared.Ticked.{Ticked}
-use Rattle.regulator.proofs.Steps.{tick-cases}
-use Rattle.regulator.specs.Ticks.{sensedOf, supervisedIn, memoryOf, rememberedIn, actedOf, nextOf, endOf, ranOf, isOut, outOf, tickOf}
+use Rattle.rules.specs.declared.Ticked.{Ticked}
+use Rattle.rules.proofs.Steps.{tick-cases}
+use Rattle.rules.specs.Ticks.{sensedOf, supervisedIn, memoryOf, rememberedIn, actedOf, nextOf, endOf, ranOf, isOut, outOf, tickOf}
 
 module _ (r : Regulator) (i : Input) (h : withinOf r ≡ true) where
   abbrev c : Contacts

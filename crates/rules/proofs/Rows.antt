@@ -14,9 +14,9 @@ use Rattle.record.specs.Limits.{withinOf}
 use Rattle.common.specs.Choice.{choose}
 use Rattle.claim.specs.Claim.{Tick, All, Some, Begins, Lasting, Waiting, Free, BeganAtZero, InForce, longest, closed}
 use Rattle.claim.proofs.Lists.{all-join, all-map}
-use Rattle.regulator.specs.Lists.{ticksFrom, delayIn, opening}
-use Rattle.regulator.proofs.Steps.{tickAt, nextAt, restAt, waitTo, Linked, accepted-is, accepted-within, settings-kept, within-kept, linked-kept}
-use Rattle.regulator.proofs.Waits.{begun-moves, force-is, force-least, force-most, wait-step, wait-or-zero, no-wait-is}
+use Rattle.rules.specs.Lists.{ticksFrom, delayIn, opening}
+use Rattle.rules.proofs.Steps.{tickAt, nextAt, restAt, waitTo, Linked, accepted-is, accepted-within, settings-kept, within-kept, linked-kept}
+use Rattle.rules.proofs.Waits.{begun-moves, force-is, force-least, force-most, wait-step, wait-or-zero, no-wait-is}
 
 -- Lists of ticks.
 abbrev pub Open : Tick → Type 0

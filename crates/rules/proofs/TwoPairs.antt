@@ -30,10 +30,10 @@ use Rattle.acting.specs.Judging.{blockedOf}
 use Rattle.acting.specs.Supervising.{contactOf, clearedOf, holdingOf, followedOf, supervisedOf}
 use Rattle.acting.specs.Commanding.{keysOf, heardIn}
 use Rattle.acting.proofs.TwoPairs.{contactsWith, regulated-by-heard, kept-by-heard, held-begins-nothing}
-use Rattle.regulator.specs.declared.Ticked.{Ticked}
-use Rattle.regulator.specs.declared.Sensed.{Sensed}
-use Rattle.regulator.specs.Ticks.{observedIn, protectedIn, assessedIn, sensedOf, supervisedIn, blockedIn, memoryOf, regulatedIn, rememberedIn, accountedIn, actedOf, nextOf, endOf, ranOf, isOut, outOf, refusedOf, tickOf}
-use Rattle.regulator.proofs.Steps.{live-is, out-is}
+use Rattle.rules.specs.declared.Ticked.{Ticked}
+use Rattle.rules.specs.declared.Sensed.{Sensed}
+use Rattle.rules.specs.Ticks.{observedIn, protectedIn, assessedIn, sensedOf, supervisedIn, blockedIn, memoryOf, regulatedIn, rememberedIn, accountedIn, actedOf, nextOf, endOf, ranOf, isOut, outOf, refusedOf, tickOf}
+use Rattle.rules.proofs.Steps.{live-is, out-is}
 
 -- the record with these keys of the previous tick, and this press remembered
 abbrev pub recalling : Keys → Way → Regulator → Regulator

@@ -13,8 +13,8 @@ use Rattle.command.specs.declared.Wait.the-variants.{Idle, For}
 use Rattle.command.specs.Automatic.{delayOf}
 use Rattle.record.specs.declared.Regulator.{Regulator}
 use Rattle.record.specs.Limits.{withinOf}
-use Rattle.regulator.specs.declared.Ticked.{Ticked}
-use Rattle.regulator.specs.Ticks.{sensedOf, tickOf}
+use Rattle.rules.specs.declared.Ticked.{Ticked}
+use Rattle.rules.specs.Ticks.{sensedOf, tickOf}
 
 -- *delay in force* to a side: "the one that rule 9 names on that tick"
 abbrev pub delayIn : Direction → Regulator → Input → ℕ

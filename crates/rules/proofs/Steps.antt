@@ -29,12 +29,12 @@ use Rattle.record.specs.Limits.{withinOf}
 use Rattle.record.specs.Starting.{freshOf}
 use Rattle.acting.specs.Judging.{blockedOf, sideOf}
 use Rattle.acting.specs.Supervising.{clearedOf, followedOf, supervisedOf}
-use Rattle.regulator.specs.declared.Ticked.{Ticked}
-use Rattle.regulator.specs.Ticks.{findingOf, supervisedIn, blockedIn, isOut, outOf, refusedOf, tickOf}
+use Rattle.rules.specs.declared.Ticked.{Ticked}
+use Rattle.rules.specs.Ticks.{findingOf, supervisedIn, blockedIn, isOut, outOf, refusedOf, tickOf}
 use Rattle.claim.specs.Claim.{Tick, restAfter, blockField, sideField, Lasting}
-use Rattle.regulator.specs.Lists.{seen}
-use Rattle.regulator.proofs.Next.{tick-lasting}
-use Rattle.regulator.proofs.Shown.{given, contactsAt, sensedAt, supervisedAt, blocksAt, driveAt, liveAt, live-drive, live-settings, live-accepted, live-on, live-moving, live-automatic, live-opposed, live-level, flag-on, flag-off, flag-rests, level-side}
+use Rattle.rules.specs.Lists.{seen}
+use Rattle.rules.proofs.Next.{tick-lasting}
+use Rattle.rules.proofs.Shown.{given, contactsAt, sensedAt, supervisedAt, blocksAt, driveAt, liveAt, live-drive, live-settings, live-accepted, live-on, live-moving, live-automatic, live-opposed, live-level, flag-on, flag-off, flag-rests, level-side}
 
 -- ---- a tick of a list
 

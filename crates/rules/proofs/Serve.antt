@@ -19,12 +19,12 @@ use Rattle.input.specs.declared.Input.{Input}
 use Rattle.record.specs.declared.Regulator.{Regulator}
 use Rattle.record.specs.Limits.{withinOf}
 use Rattle.claim.specs.Claim.{Tick, output, commandField, All, Some, Begins, Lasting, longest, Serves, Command}
-use Rattle.regulator.specs.Lists.{ticksFrom}
+use Rattle.rules.specs.Lists.{ticksFrom}
 use Rattle.claim.proofs.Lists.{all-front, all-back, all-map, some-back, some-or-none}
-use Rattle.regulator.proofs.Steps.{tickAt, nextAt, restAt, Linked, accepted-within, settings-kept, within-kept, linked-kept}
-use Rattle.regulator.proofs.Waits.{begun-asked, force-least, force-most}
-use Rattle.regulator.proofs.Moves.{asked-open, asked-closed, moving-closed, moving-open}
-use Rattle.regulator.proofs.Rows.{Open, Closed, recordAfter, restAfter, cut, length-ticks, linked-step, linked-after, settings-after, within-after, row-begins, uncons}
+use Rattle.rules.proofs.Steps.{tickAt, nextAt, restAt, Linked, accepted-within, settings-kept, within-kept, linked-kept}
+use Rattle.rules.proofs.Waits.{begun-asked, force-least, force-most}
+use Rattle.rules.proofs.Moves.{asked-open, asked-closed, moving-closed, moving-open}
+use Rattle.rules.proofs.Rows.{Open, Closed, recordAfter, restAfter, cut, length-ticks, linked-step, linked-after, settings-after, within-after, row-begins, uncons}
 
 -- The drive serves a command: asked, moving, and at rest again.
 -- it has the switching contact, and goes on having it

@@ -31,9 +31,9 @@ use Rattle.acting.specs.Judging.{blockedOf}
 use Rattle.acting.specs.Commanding.{keysOf, regulatedOf, keptPressOf}
 use Rattle.acting.specs.Accounting.{accountedOf}
 use Rattle.showing.specs.Showing.{fieldCount, outputsOf}
-use Rattle.regulator.specs.declared.Acted.{Acted}
-use Rattle.regulator.specs.declared.Sensed.{Sensed}
-use Rattle.regulator.specs.declared.Ticked.{Ticked}
+use Rattle.rules.specs.declared.Acted.{Acted}
+use Rattle.rules.specs.declared.Sensed.{Sensed}
+use Rattle.rules.specs.declared.Ticked.{Ticked}
 
 -- ---- rules 3 to 6: what is there
 

@@ -35,10 +35,10 @@ use Rattle.acting.specs.Commanding.{askOf, situationOf, decisionOf, regulatedOf
 use Rattle.sensing.specs.Protecting.{protectedOf}
 use Rattle.acting.specs.Supervising.{supervisedOf}
 use Rattle.acting.specs.declared.supervising.Supervised.{Supervised}
-use Rattle.regulator.specs.declared.Sensed.{Sensed}
-use Rattle.regulator.specs.declared.Ticked.{Ticked}
-use Rattle.regulator.specs.Ticks.{sensedOf, protectedIn, findingOf, supervisedIn, blockedIn, memoryOf, regulatedIn, rememberedIn, accountedIn, actedOf, nextOf, endOf, ranOf, isOut, outOf, refusedOf, tickOf}
-use Rattle.regulator.proofs.Lasting.{Parts, motion-parts, motion-kept, fault-rests, kind-after, kept-press, delays-are, operations-most}
+use Rattle.rules.specs.declared.Sensed.{Sensed}
+use Rattle.rules.specs.declared.Ticked.{Ticked}
+use Rattle.rules.specs.Ticks.{sensedOf, protectedIn, findingOf, supervisedIn, blockedIn, memoryOf, regulatedIn, rememberedIn, accountedIn, actedOf, nextOf, endOf, ranOf, isOut, outOf, refusedOf, tickOf}
+use Rattle.rules.proofs.Lasting.{Parts, motion-parts, motion-kept, fault-rests, kind-after, kept-press, delays-are, operations-most}
 
 module _ (r : Regulator) (h : withinOf r ≡ true) where
   pub pass : passesOf (r .settings) ≡ true
