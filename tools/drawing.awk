@@ -142,7 +142,7 @@ function most(a, b) { return a > b ? a : b }
 
 # The least distance of two middles.
 function room(a, b) { return (width(a) + width(b)) / 2 + SPACE }
-function width(n) { return n <= crates ? WIDE : NARROW }
+function width(n) { return n > crates ? NARROW : 8 * length(crate[n]) + 12 > WIDE ? 8 * length(crate[n]) + 12 : WIDE }
 function y(n) { return MARGIN + (layers - layer[n]) * STEP }
 
 function draw(    n, low, high, i, wide, tall) {
@@ -183,6 +183,6 @@ function edge(from, to,    path, at, top) {
 function box(n,    fill, ink) {
     fill = stands[n] ? "#DCEBF5" : "#0072B2"
     ink = stands[n] ? "#1B1F24" : "#FFFFFF"
-    printf "<rect x=\"%.1f\" y=\"%.1f\" width=\"%d\" height=\"%d\" rx=\"5\" fill=\"%s\"/>\n", x[n] - WIDE / 2, y(n), WIDE, HEIGHT, fill
+    printf "<rect x=\"%.1f\" y=\"%.1f\" width=\"%d\" height=\"%d\" rx=\"5\" fill=\"%s\"/>\n", x[n] - width(n) / 2, y(n), width(n), HEIGHT, fill
     printf "<text x=\"%.1f\" y=\"%.1f\" font-size=\"14\" fill=\"%s\" text-anchor=\"middle\">%s</text>\n", x[n], y(n) + 20, ink, crate[n]
 }

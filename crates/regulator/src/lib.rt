@@ -5,8 +5,8 @@ ghost use Rattle.record.specs.Limits.{withinOf};
 ghost use Rattle.claim.specs.Claim.{Kept};
 ghost use Rattle.rules.specs.Lists.{listFrom, opening};
 ghost use Rattle.rules.specs.Ticks.{sensedOf, findingOf, memoryOf, actedOf, shownOf, nextOf, ranOf, outOf, refusedOf, tickOf};
-use acting::commanding::Memory;
-use acting::judging::Finding;
+use acting_commanding::Memory;
+use acting_judging::Finding;
 use input::Contacts;
 use input::Input;
 use record::Regulator;
@@ -85,15 +85,15 @@ fn act(r: Regulator, c: Contacts, x: Sensed) -> Acted
     let last = r.last;
     let assessed = x.assessed;
     let found = finding_of(x);
-    let supervised = acting::supervising::supervise(&s, c, found, drive, latch, last);
+    let supervised = acting_supervising::supervise(&s, c, found, drive, latch, last);
     let latched = supervised.latch;
     let fault = latched.fault;
-    let blocks = acting::judging::block(&s, c, fault, found);
+    let blocks = acting_judging::block(&s, c, fault, found);
     let m = memory_of(r);
     let followed = supervised.drive;
-    let regulated = acting::commanding::regulate(&s, c, assessed, blocks, m, followed);
+    let regulated = acting_commanding::regulate(&s, c, assessed, blocks, m, followed);
     let ended = supervised.ended;
-    let accounted = acting::accounting::account(
+    let accounted = acting_accounting::account(
         &s,
         ended,
         supervised.operation,
@@ -156,9 +156,9 @@ fn next_of(r: Regulator, c: Contacts, x: Sensed, y: Acted) -> Regulator
     let repeat = regulated.repeat;
     let accounted = y.accounted;
     let last = accounted.last;
-    let keys = acting::commanding::keys_of(c);
+    let keys = acting_commanding::keys_of(c);
     let m = memory_of(r);
-    let remembered = acting::commanding::remember(c, fault, m);
+    let remembered = acting_commanding::remember(c, fault, m);
     Regulator {
         settings: settings,
         organs: organs,

@@ -36,13 +36,13 @@ use Rattle.command.specs.Automatic.{delayOf}
 use Rattle.command.proofs.Sound.{Sound}
 use Rattle.record.specs.Limits.{ticksOf, delaysOf, kindWithin, motionWithin, pressWithin}
 use Rattle.record.proofs.OfKind.{held-kind, kind-long, contact-kind}
-use Rattle.acting.specs.Accounting.{oneMoreOf, operationsOf}
-use Rattle.acting.specs.Commanding.{askOf, keptPressOf}
-use Rattle.acting.specs.declared.judging.Finding.{Finding}
-use Rattle.acting.specs.Supervising.{clearedOf, followedOf}
-use Rattle.acting.specs.declared.commanding.Memory.{Memory}
-use Rattle.acting.proofs.EachKind.{faulty-stays, fault-stops, held-kept, contact-kept}
-use Rattle.acting.proofs.Presses.{fault-drops}
+use Rattle.acting_accounting.specs.Accounting.{oneMoreOf, operationsOf}
+use Rattle.acting_commanding.specs.Commanding.{askOf, keptPressOf}
+use Rattle.acting_judging.specs.declared.Finding.{Finding}
+use Rattle.acting_supervising.specs.Supervising.{clearedOf, followedOf}
+use Rattle.acting_commanding.specs.declared.Memory.{Memory}
+use Rattle.acting_supervising.proofs.EachKind.{faulty-stays, fault-stops, held-kept, contact-kept}
+use Rattle.acting_commanding.proofs.Presses.{fault-drops}
 use Rattle.input.specs.declared.Contacts.{Contacts}
 use Rattle.sensing.specs.Protecting.{organInputOf, organInputsOf}
 use Rattle.input.specs.declared.Readings.{Readings}

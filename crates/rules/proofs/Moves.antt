@@ -18,9 +18,9 @@ use Rattle.input.specs.declared.Input.{Input}
 use Rattle.command.specs.declared.Decided.{Decided}
 use Rattle.command.proofs.Sound.{decided-idle}
 use Rattle.record.specs.declared.Regulator.{Regulator}
-use Rattle.acting.specs.Commanding.{askOf, situationOf}
-use Rattle.acting.specs.Supervising.{contactOf}
-use Rattle.acting.proofs.EachKind.{contact-is}
+use Rattle.acting_commanding.specs.Commanding.{askOf, situationOf}
+use Rattle.acting_supervising.specs.Supervising.{contactOf}
+use Rattle.acting_supervising.proofs.EachKind.{contact-is}
 use Rattle.rules.specs.declared.Ticked.{Ticked}
 use Rattle.claim.specs.Claim.{Lasting, closed}
 use Rattle.rules.proofs.Shown.{contactsAt, supervisedAt, situationAt, live-drive}

@@ -29,12 +29,12 @@ use Rattle.command.proofs.Sound.{Sound, decided-sound, modeBlocked}
 use Rattle.record.specs.Limits.{kindWithin, motionWithin, pressWithin, countsWithin, withinOf, delaysOf}
 use Rattle.record.specs.declared.Regulator.{Regulator}
 use Rattle.record.proofs.Starts.{fresh-within}
-use Rattle.acting.specs.Accounting.{accountedOf}
-use Rattle.acting.specs.Judging.{blockedOf}
-use Rattle.acting.specs.Commanding.{askOf, situationOf, decisionOf, regulatedOf}
+use Rattle.acting_accounting.specs.Accounting.{accountedOf}
+use Rattle.acting_judging.specs.Judging.{blockedOf}
+use Rattle.acting_commanding.specs.Commanding.{askOf, situationOf, decisionOf, regulatedOf}
 use Rattle.sensing.specs.Protecting.{protectedOf}
-use Rattle.acting.specs.Supervising.{supervisedOf}
-use Rattle.acting.specs.declared.supervising.Supervised.{Supervised}
+use Rattle.acting_supervising.specs.Supervising.{supervisedOf}
+use Rattle.acting_supervising.specs.declared.Supervised.{Supervised}
 use Rattle.rules.specs.declared.Sensed.{Sensed}
 use Rattle.rules.specs.declared.Ticked.{Ticked}
 use Rattle.rules.specs.Ticks.{sensedOf, protectedIn, findingOf, supervisedIn, blockedIn, memoryOf, regulatedIn, rememberedIn, accountedIn, actedOf, nextOf, endOf, ranOf, isOut, outOf, refusedOf, tickOf}

@@ -11,7 +11,7 @@ use Rattle.input.specs.Brought.{contactsOf}
 use Rattle.record.specs.declared.Regulator.{Regulator}
 use Rattle.record.specs.Limits.{withinOf}
 use Rattle.record.specs.Starting.{freshOf}
-use Rattle.acting.proofs.Presses.{fault-drops, automatic-drops, local-drops, rest-leaves-none}
+use Rattle.acting_commanding.proofs.Presses.{fault-drops, automatic-drops, local-drops, rest-leaves-none}
 use Rattle.rules.specs.declared.Ticked.{Ticked}
 use Rattle.rules.proofs.Steps.{tick-cases}
 use Rattle.rules.specs.Ticks.{sensedOf, supervisedIn, memoryOf, rememberedIn, actedOf, nextOf, endOf, ranOf, isOut, outOf, tickOf}

@@ -28,9 +28,9 @@ use Rattle.command.specs.declared.Situation.{Situation}
 use Rattle.blocks.specs.Blocked.{opposedOf}
 use Rattle.command.specs.Deciding.{decidedOf}
 use Rattle.record.specs.declared.Regulator.{Regulator}
-use Rattle.acting.specs.declared.supervising.Supervised.{Supervised}
-use Rattle.acting.specs.Judging.{sideOf}
-use Rattle.acting.specs.Commanding.{askOf, situationOf, decisionOf, regulatedOf}
+use Rattle.acting_supervising.specs.declared.Supervised.{Supervised}
+use Rattle.acting_judging.specs.Judging.{sideOf}
+use Rattle.acting_commanding.specs.Commanding.{askOf, situationOf, decisionOf, regulatedOf}
 use Rattle.showing.specs.Showing as showing
 use Rattle.showing.specs.Showing.{isLow, isHigh, signalsOf, fieldsOf, outputsOf}
 use Rattle.rules.specs.declared.Sensed.{Sensed}

@@ -11,7 +11,7 @@ use Rattle.slots.specs.Slots.{slot, inService, t7}
 use Rattle.ways.specs.declared.Direction.{Direction}
 use Rattle.ways.specs.declared.Direction.the-variants.{Raise, Lower}
 use Rattle.ways.specs.declared.Way.the-variants.{To}
-use Rattle.acting.specs.declared.judging.Finding.{Finding}
+use Rattle.acting_judging.specs.declared.Finding.{Finding}
 use Rattle.drive.specs.declared.follow.Followed.{Followed}
 use Rattle.fault.specs.declared.Latch.{Latch}
 use Rattle.drive.specs.declared.Drive.{Drive}
@@ -27,8 +27,8 @@ use Rattle.command.specs.Automatic.{waitedOf}
 use Rattle.record.specs.declared.Regulator.{Regulator}
 use Rattle.record.specs.Limits.{withinOf}
 use Rattle.record.specs.Starting.{freshOf}
-use Rattle.acting.specs.Judging.{blockedOf, sideOf}
-use Rattle.acting.specs.Supervising.{clearedOf, followedOf, supervisedOf}
+use Rattle.acting_judging.specs.Judging.{blockedOf, sideOf}
+use Rattle.acting_supervising.specs.Supervising.{clearedOf, followedOf, supervisedOf}
 use Rattle.rules.specs.declared.Ticked.{Ticked}
 use Rattle.rules.specs.Ticks.{findingOf, supervisedIn, blockedIn, isOut, outOf, refusedOf, tickOf}
 use Rattle.claim.specs.Claim.{Tick, restAfter, blockField, sideField, Lasting}

@@ -25,11 +25,11 @@ use Rattle.record.specs.Limits.{motionWithin, pressWithin, countsWithin, within
 use Rattle.record.specs.Starting.{localKeys, freshOf}
 use Rattle.sensing.specs.Observing.{observedOf}
 use Rattle.sensing.specs.Assessing.{assessedOf}
-use Rattle.acting.specs.declared.supervising.Supervised.{Supervised}
-use Rattle.acting.specs.Judging.{blockedOf}
-use Rattle.acting.specs.Supervising.{contactOf, clearedOf, holdingOf, followedOf, supervisedOf}
-use Rattle.acting.specs.Commanding.{keysOf, heardIn}
-use Rattle.acting.proofs.TwoPairs.{contactsWith, regulated-by-heard, kept-by-heard, held-begins-nothing}
+use Rattle.acting_supervising.specs.declared.Supervised.{Supervised}
+use Rattle.acting_judging.specs.Judging.{blockedOf}
+use Rattle.acting_supervising.specs.Supervising.{contactOf, clearedOf, holdingOf, followedOf, supervisedOf}
+use Rattle.acting_commanding.specs.Commanding.{keysOf, heardIn}
+use Rattle.acting_commanding.proofs.TwoPairs.{contactsWith, regulated-by-heard, kept-by-heard, held-begins-nothing}
 use Rattle.rules.specs.declared.Ticked.{Ticked}
 use Rattle.rules.specs.declared.Sensed.{Sensed}
 use Rattle.rules.specs.Ticks.{observedIn, protectedIn, assessedIn, sensedOf, supervisedIn, blockedIn, memoryOf, regulatedIn, rememberedIn, accountedIn, actedOf, nextOf, endOf, ranOf, isOut, outOf, refusedOf, tickOf}

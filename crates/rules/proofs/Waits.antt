@@ -27,7 +27,7 @@ use Rattle.drive.specs.Follow.{restsOf}
 use Rattle.drive.specs.Shown.{onOf}
 use Rattle.ways.specs.Ways.{isTo}
 use Rattle.ways.proofs.Cases.{is-to-self, is-to-is, is-to-neither}
-use Rattle.acting.proofs.EachKind.{rest-silent, rest-free, rest-needs-free}
+use Rattle.acting_supervising.proofs.EachKind.{rest-silent, rest-free, rest-needs-free}
 use Rattle.input.specs.declared.Input.{Input}
 use Rattle.command.specs.declared.Decided.{Decided}
 use Rattle.command.specs.declared.Wait.{Wait}
@@ -37,7 +37,7 @@ use Rattle.command.proofs.Sound.{Waits, decided-sound, decided-waits}
 use Rattle.record.specs.declared.Regulator.{Regulator}
 use Rattle.record.specs.Limits.{withinOf}
 use Rattle.record.specs.Starting.{freshOf}
-use Rattle.acting.specs.Commanding.{askOf, situationOf}
+use Rattle.acting_commanding.specs.Commanding.{askOf, situationOf}
 use Rattle.showing.specs.Showing as showing
 use Rattle.rules.specs.declared.Ticked.{Ticked}
 use Rattle.rules.specs.Ticks.{isOut, outOf, tickOf}

@@ -46,14 +46,14 @@ use Rattle.command.specs.Manual as command-manual
 use Rattle.command.specs.Pairs as command-pairs
 use Rattle.record.specs.Limits as record-limits
 use Rattle.record.specs.Starting as record-starting
-use Rattle.acting.specs.Accounting as acting-accounting
+use Rattle.acting_accounting.specs.Accounting as acting-accounting
 use Rattle.sensing.specs.Assessing as sensing-assessing
-use Rattle.acting.specs.Commanding as acting-commanding
-use Rattle.acting.specs.Judging as acting-judging
+use Rattle.acting_commanding.specs.Commanding as acting-commanding
+use Rattle.acting_judging.specs.Judging as acting-judging
 use Rattle.sensing.specs.Observing as sensing-observing
 use Rattle.sensing.specs.Protecting as sensing-protecting
 use Rattle.showing.specs.Showing as showing
-use Rattle.acting.specs.Supervising as acting-supervising
+use Rattle.acting_supervising.specs.Supervising as acting-supervising
 use Rattle.rules.specs.Ticks as rules-ticks
 
 -- what the ticks bring: 100 V, 98 V, 111 V, with the contacts of the worked ticks

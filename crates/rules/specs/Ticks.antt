@@ -15,21 +15,21 @@ use Rattle.ways.specs.declared.Way.{Way}
 use Rattle.record.specs.declared.Regulator.{Regulator}
 use Rattle.record.specs.Limits.{withinOf}
 use Rattle.record.specs.Starting.{freshOf}
-use Rattle.acting.specs.declared.accounting.Accounted.{Accounted}
+use Rattle.acting_accounting.specs.declared.Accounted.{Accounted}
 use Rattle.sensing.specs.declared.assessing.Assessed.{Assessed}
-use Rattle.acting.specs.declared.judging.Finding.{Finding}
-use Rattle.acting.specs.declared.commanding.Memory.{Memory}
-use Rattle.acting.specs.declared.commanding.Regulated.{Regulated}
+use Rattle.acting_judging.specs.declared.Finding.{Finding}
+use Rattle.acting_commanding.specs.declared.Memory.{Memory}
+use Rattle.acting_commanding.specs.declared.Regulated.{Regulated}
 use Rattle.sensing.specs.declared.observing.Observed.{Observed}
 use Rattle.showing.specs.declared.Shown.{Shown}
-use Rattle.acting.specs.declared.supervising.Supervised.{Supervised}
+use Rattle.acting_supervising.specs.declared.Supervised.{Supervised}
 use Rattle.sensing.specs.Observing.{observedOf}
 use Rattle.sensing.specs.Protecting.{protectedOf}
 use Rattle.sensing.specs.Assessing.{assessedOf}
-use Rattle.acting.specs.Supervising.{supervisedOf}
-use Rattle.acting.specs.Judging.{blockedOf}
-use Rattle.acting.specs.Commanding.{keysOf, regulatedOf, keptPressOf}
-use Rattle.acting.specs.Accounting.{accountedOf}
+use Rattle.acting_supervising.specs.Supervising.{supervisedOf}
+use Rattle.acting_judging.specs.Judging.{blockedOf}
+use Rattle.acting_commanding.specs.Commanding.{keysOf, regulatedOf, keptPressOf}
+use Rattle.acting_accounting.specs.Accounting.{accountedOf}
 use Rattle.showing.specs.Showing.{fieldCount, outputsOf}
 use Rattle.rules.specs.declared.Acted.{Acted}
 use Rattle.rules.specs.declared.Sensed.{Sensed}

@@ -1,8 +1,8 @@
 // What one tick hands on, stage by stage: the types of the rules. The rules themselves are definitions (`specs/Ticks.antt`), and
 // what is promised of lists of ticks is proved of them here; the code is crate `regulator`.
-use acting::accounting::Accounted;
-use acting::commanding::Regulated;
-use acting::supervising::Supervised;
+use acting_accounting::Accounted;
+use acting_commanding::Regulated;
+use acting_supervising::Supervised;
 use blocks::Blocks;
 use organ::Organs;
 use record::Regulator;

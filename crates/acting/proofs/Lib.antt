@@ -1,5 +1,0 @@
-pub mod EachKind
-pub mod Parts
-pub mod Made
-pub mod Presses
-pub mod TwoPairs

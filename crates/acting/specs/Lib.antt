@@ -1,4 +1,0 @@
-pub mod Judging
-pub mod Supervising
-pub mod Commanding
-pub mod Accounting

@@ -1,0 +1,4 @@
+pub mod Made
+pub mod Parts
+pub mod Presses
+pub mod TwoPairs
