@@ -5,7 +5,7 @@ use mathlib.Core.Bool.{Bool, true, _||_}
 use Rattle.common.proofs.Cases.{yes}
 use Rattle.common.proofs.Joined.{or-true}
 use Rattle.input.specs.declared.Contacts.{Contacts}
-use Rattle.drive.specs.Follow.{restsOf}
+use Rattle.drive_follow.specs.Follow.{restsOf}
 use Rattle.fault.specs.declared.Fault.{Fault}
 use Rattle.fault.specs.Latches.{isFault}
 use Rattle.ways.specs.declared.Way.the-variants.{Neither}

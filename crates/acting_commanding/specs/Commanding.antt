@@ -7,7 +7,7 @@ use Rattle.drive.specs.declared.Drive.{Drive}
 use Rattle.drive.specs.declared.Drive.the-variants.{Asked}
 use Rattle.ways.specs.declared.Way.{Way}
 use Rattle.ways.specs.declared.Way.the-variants.{Neither, To}
-use Rattle.drive.specs.Follow.{restsOf}
+use Rattle.drive_follow.specs.Follow.{restsOf}
 use Rattle.fault.specs.declared.Fault.{Fault}
 use Rattle.fault.specs.Latches.{isFault}
 use Rattle.blocks.specs.declared.Blocks.{Blocks}

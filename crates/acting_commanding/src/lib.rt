@@ -75,8 +75,8 @@ fn situation(c: Contacts, a: Assessed, b: Blocks, m: Memory, d: Drive) -> Situat
     ensures { λ r. ⌜ r ≡ situationOf c a b m d ⌝ }
 {
     let was = m.drive;
-    let rested = drive::follow::rests(was);
-    let rests = drive::follow::rests(d);
+    let rested = drive_follow::rests(was);
+    let rests = drive_follow::rests(d);
     let level = a.level;
     let side = acting_judging::side_of(level);
     let wait = m.wait;
@@ -140,7 +140,7 @@ pub fn remember(c: Contacts, f: Fault, m: Memory) -> Way
     ensures { λ r. ⌜ r ≡ keptPressOf c f m ⌝ }
 {
     let was = m.drive;
-    let rested = drive::follow::rests(was);
+    let rested = drive_follow::rests(was);
     let dropped = drops(c, f);
     let heard = hear(c, m);
     let now = heard.buttons;

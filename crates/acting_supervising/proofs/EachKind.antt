@@ -12,17 +12,17 @@ use Rattle.slots.specs.Slots.{slot, t4, t5, continuous, isContinuous}
 use Rattle.input.specs.declared.Contacts.{Contacts}
 use Rattle.drive.specs.declared.Drive.{Drive}
 use Rattle.drive.specs.declared.Drive.the-variants.{Resting}
-use Rattle.drive.specs.declared.follow.Contact.{Contact}
-use Rattle.drive.specs.declared.follow.Followed.{Followed}
-use Rattle.drive.specs.declared.hold.Holding.{Holding}
-use Rattle.drive.specs.Follow as follow
-use Rattle.drive.specs.Follow.{unmovedOf, followOf, restsOf}
-use Rattle.drive.specs.Hold as hold
-use Rattle.drive.specs.Hold.{holdOf}
-use Rattle.drive.specs.Shown.{onOf}
-use Rattle.drive.proofs.Kept as kept
-use Rattle.drive.proofs.Holding as holding
-use Rattle.drive.proofs.Serving as serving
+use Rattle.drive_follow.specs.declared.Contact.{Contact}
+use Rattle.drive_follow.specs.declared.Followed.{Followed}
+use Rattle.drive_hold.specs.declared.Holding.{Holding}
+use Rattle.drive_follow.specs.Follow as follow
+use Rattle.drive_follow.specs.Follow.{unmovedOf, followOf, restsOf}
+use Rattle.drive_hold.specs.Hold as hold
+use Rattle.drive_hold.specs.Hold.{holdOf}
+use Rattle.drive_shown.specs.Shown.{onOf}
+use Rattle.drive_follow.proofs.Kept as kept
+use Rattle.drive_hold.proofs.Kept as holding
+use Rattle.drive_follow.proofs.Serving as serving
 use Rattle.fault.specs.declared.Latch.{Latch}
 use Rattle.fault.specs.Latches.{isFault, longOrNone}
 use Rattle.ways.specs.declared.Way.{Way}

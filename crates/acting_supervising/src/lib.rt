@@ -3,9 +3,9 @@ ghost use mathlib.Core.Path.{_≡_};
 ghost use Rattle.acting_supervising.specs.Supervising.{contactOf, holdingOf, followedOf, supervisedOf};
 use acting_judging::Finding;
 use drive::Drive;
-use drive::follow::Contact;
-use drive::follow::Followed;
-use drive::hold::Holding;
+use drive_follow::Contact;
+use drive_follow::Followed;
+use drive_hold::Holding;
 use fault::Latch;
 use input::Contacts;
 use slots::CONTINUOUS;
@@ -70,10 +70,10 @@ fn followed(s: &[u32; SLOTS], c: Contacts, x: Finding, d: Drive, l: Latch, last:
 {
     if s[CONTINUOUS] == 1 {
         let h = holding_of(s, c, x, l);
-        drive::hold::hold(d, h)
+        drive_hold::hold(d, h)
     } else {
         let k = contact_of(s, c, x.tap, l, last);
-        drive::follow::follow(d, k)
+        drive_follow::follow(d, k)
     }
 }
 

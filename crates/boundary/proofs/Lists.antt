@@ -8,7 +8,7 @@ use Rattle.common.proofs.Cases.{no}
 use Rattle.ways.specs.declared.Direction.the-variants.{Raise, Lower}
 use Rattle.drive.specs.declared.Drive.{Drive}
 use Rattle.drive.specs.declared.Drive.the-variants.{Resting, Asked, Moving}
-use Rattle.drive.specs.Follow.{restsOf}
+use Rattle.drive_follow.specs.Follow.{restsOf}
 use Rattle.command.specs.declared.Wait.{Wait}
 use Rattle.command.specs.declared.Wait.the-variants.{Idle, For}
 use Rattle.record.specs.declared.Regulator.{Regulator}

@@ -1,9 +1,5 @@
-// The motor drive of the tap changer: what is known of it between ticks, and how a tick follows it: `follow` by its switching
-// contact, `hold` without one.
-pub mod follow;
-pub mod hold;
-pub mod shown;
-
+// The motor drive of the tap changer: what is known of it between ticks. A tick follows it by its switching contact
+// (`drive_follow`), or holds its command without one (`drive_hold`).
 use ways::Direction;
 
 // A command is asked until the switching contact closes, and moving until it opens again; without the contact it is asked, and

@@ -11,8 +11,8 @@ use Rattle.common.proofs.Joined.{and-right, and-both, split}
 use Rattle.slots.specs.Slots.{slot, t4, t5, continuous, isContinuous}
 use Rattle.drive.specs.declared.Drive.{Drive}
 use Rattle.drive.specs.declared.Drive.the-variants.{Resting}
-use Rattle.drive.specs.Follow as follow
-use Rattle.drive.specs.Hold as hold
+use Rattle.drive_follow.specs.Follow as follow
+use Rattle.drive_hold.specs.Hold as hold
 use Rattle.fault.specs.declared.Fault.{Fault}
 use Rattle.fault.specs.Latches.{longOrNone}
 use Rattle.record.specs.Limits.{kindWithin}

@@ -13,9 +13,9 @@ use Rattle.organ.specs.Limits.{organsWithin}
 use Rattle.drive.specs.declared.Drive.{Drive}
 use Rattle.fault.specs.declared.Fault.{Fault}
 use Rattle.fault.specs.declared.Latch.{Latch}
-use Rattle.drive.specs.Follow as follow
-use Rattle.drive.specs.Follow.{restsOf}
-use Rattle.drive.specs.Hold as hold
+use Rattle.drive_follow.specs.Follow as follow
+use Rattle.drive_follow.specs.Follow.{restsOf}
+use Rattle.drive_hold.specs.Hold as hold
 use Rattle.fault.specs.Latches.{isFault, longOrNone, latchWithin}
 use Rattle.command.specs.declared.Wait.{Wait}
 use Rattle.command.specs.declared.Wait.the-variants.{Idle, For}

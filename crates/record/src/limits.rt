@@ -49,11 +49,11 @@ fn kind_within(s: &[u32; SLOTS], d: Drive, f: Fault) -> bool
     ensures { λ r. ⌜ r ≡ kindWithin (now (s .entry)) d f ⌝ }
 {
     if s[CONTINUOUS] == 1 {
-        let held = drive::hold::within(d, s[T4]);
+        let held = drive_hold::within(d, s[T4]);
         let long = fault::is_long_or_none(f);
         held & long
     } else {
-        drive::follow::within(d, s[T4], s[T5])
+        drive_follow::within(d, s[T4], s[T5])
     }
 }
 
@@ -62,7 +62,7 @@ fn motion_within(s: &[u32; SLOTS], d: Drive, w: Wait, l: Latch) -> bool
     ensures { λ r. ⌜ r ≡ motionWithin (now (s .entry)) d w l ⌝ }
 {
     let ticks = wait_ticks(w);
-    let rests = drive::follow::rests(d);
+    let rests = drive_follow::rests(d);
     let f = l.fault;
     let moves = kind_within(s, d, f);
     let fault = fault::is_fault(f);

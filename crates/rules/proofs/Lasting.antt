@@ -22,10 +22,10 @@ use Rattle.fault.specs.declared.Fault.{Fault}
 use Rattle.fault.specs.declared.Latch.{Latch}
 use Rattle.ways.specs.declared.Way.{Way}
 use Rattle.ways.specs.declared.Way.the-variants.{Neither, To}
-use Rattle.drive.specs.declared.follow.Followed.{Followed}
-use Rattle.drive.specs.Follow as follow
-use Rattle.drive.specs.Follow.{restsOf}
-use Rattle.drive.specs.Hold as hold
+use Rattle.drive_follow.specs.declared.Followed.{Followed}
+use Rattle.drive_follow.specs.Follow as follow
+use Rattle.drive_follow.specs.Follow.{restsOf}
+use Rattle.drive_hold.specs.Hold as hold
 use Rattle.fault.specs.Latches.{isFault, laterOf, resetOf, latchWithin}
 use Rattle.fault.proofs.Kept.{later-long, reset-long}
 use Rattle.command.specs.declared.Decided.{Decided}

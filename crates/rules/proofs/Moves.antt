@@ -9,11 +9,11 @@ use Rattle.slots.specs.Slots.{slot, continuous}
 use Rattle.ways.specs.declared.Direction.{Direction}
 use Rattle.drive.specs.declared.Drive.{Drive}
 use Rattle.drive.specs.declared.Drive.the-variants.{Resting, Asked, Moving}
-use Rattle.drive.specs.Follow.{followOf, restsOf}
+use Rattle.drive_follow.specs.Follow.{followOf, restsOf}
 use Rattle.fault.specs.Latches.{isFault}
-use Rattle.drive.specs.declared.follow.Contact.{Contact}
-use Rattle.drive.specs.declared.follow.Followed.{Followed}
-use Rattle.drive.proofs.Serving as serving
+use Rattle.drive_follow.specs.declared.Contact.{Contact}
+use Rattle.drive_follow.specs.declared.Followed.{Followed}
+use Rattle.drive_follow.proofs.Serving as serving
 use Rattle.input.specs.declared.Input.{Input}
 use Rattle.command.specs.declared.Decided.{Decided}
 use Rattle.command.proofs.Sound.{decided-idle}

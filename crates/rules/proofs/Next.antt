@@ -15,7 +15,7 @@ use Rattle.organ.specs.Limits.{organsWithin}
 use Rattle.organ.proofs.Within.{all-step-within}
 use Rattle.ways.specs.declared.Way.{Way}
 use Rattle.ways.specs.declared.Way.the-variants.{Neither, To}
-use Rattle.drive.specs.Follow.{restsOf}
+use Rattle.drive_follow.specs.Follow.{restsOf}
 use Rattle.fault.specs.Latches.{isFault, latchedOf}
 use Rattle.fault.proofs.Kept.{latched-within}
 use Rattle.tap.proofs.Steps.{counted-kept}

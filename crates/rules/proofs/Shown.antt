@@ -15,9 +15,9 @@ use Rattle.drive.specs.declared.Drive.{Drive}
 use Rattle.fault.specs.declared.Fault.{Fault}
 use Rattle.fault.specs.declared.Fault.the-variants.{NoFault, RunAway, NotStarted, Long, Fast}
 use Rattle.ways.specs.declared.Way.the-variants.{To}
-use Rattle.drive.specs.Follow.{restsOf}
+use Rattle.drive_follow.specs.Follow.{restsOf}
 use Rattle.fault.specs.Latches.{isFault, fieldOf}
-use Rattle.drive.specs.Shown.{onOf}
+use Rattle.drive_shown.specs.Shown.{onOf}
 use Rattle.ways.specs.Ways.{isTo}
 use Rattle.input.specs.declared.Contacts.{Contacts}
 use Rattle.input.specs.declared.Input.{Input}

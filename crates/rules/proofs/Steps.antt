@@ -12,12 +12,12 @@ use Rattle.ways.specs.declared.Direction.{Direction}
 use Rattle.ways.specs.declared.Direction.the-variants.{Raise, Lower}
 use Rattle.ways.specs.declared.Way.the-variants.{To}
 use Rattle.acting_judging.specs.declared.Finding.{Finding}
-use Rattle.drive.specs.declared.follow.Followed.{Followed}
+use Rattle.drive_follow.specs.declared.Followed.{Followed}
 use Rattle.fault.specs.declared.Latch.{Latch}
 use Rattle.drive.specs.declared.Drive.{Drive}
-use Rattle.drive.specs.Follow.{restsOf}
+use Rattle.drive_follow.specs.Follow.{restsOf}
 use Rattle.fault.specs.Latches.{isFault, latchedOf}
-use Rattle.drive.specs.Shown.{onOf}
+use Rattle.drive_shown.specs.Shown.{onOf}
 use Rattle.ways.proofs.Cases.{one-way}
 use Rattle.fault.proofs.Kept.{later-none}
 use Rattle.input.specs.declared.Input.{Input}

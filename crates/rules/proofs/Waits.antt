@@ -22,9 +22,9 @@ use Rattle.drive.specs.declared.Drive.{Drive}
 use Rattle.drive.specs.declared.Drive.the-variants.{Resting, Asked}
 use Rattle.ways.specs.declared.Way.{Way}
 use Rattle.ways.specs.declared.Way.the-variants.{Neither, To}
-use Rattle.drive.specs.declared.follow.Followed.{Followed}
-use Rattle.drive.specs.Follow.{restsOf}
-use Rattle.drive.specs.Shown.{onOf}
+use Rattle.drive_follow.specs.declared.Followed.{Followed}
+use Rattle.drive_follow.specs.Follow.{restsOf}
+use Rattle.drive_shown.specs.Shown.{onOf}
 use Rattle.ways.specs.Ways.{isTo}
 use Rattle.ways.proofs.Cases.{is-to-self, is-to-is, is-to-neither}
 use Rattle.acting_supervising.proofs.EachKind.{rest-silent, rest-free, rest-needs-free}

@@ -11,7 +11,7 @@ use Rattle.claim.specs.Scenes.{variedSheet, heldSheet, brought}
 use Rattle.claim.proofs.Ticks.{raises, high, heldLow, heldHigh, closedContact, resetContact}
 use Rattle.claim.proofs.Worked as worked
 use Rattle.claim.proofs.Worked.{freshOpening, waitingOpening, heldOpening, outsideOpening, moveOf, rowT2, servedList, highList, waitingList, heldRow, heldList, heldBandList, heldHighList, outsideList}
-use Rattle.drive.specs.Follow.{restsOf}
+use Rattle.drive_follow.specs.Follow.{restsOf}
 use Rattle.ways.specs.declared.Direction.the-variants.{Raise, Lower}
 use Rattle.input.specs.declared.Input.{Input}
 use Rattle.command.specs.declared.Wait.{Wait}
@@ -27,10 +27,10 @@ use Rattle.sheet.specs.Sheet as sheet-sheet
 use Rattle.sheet.specs.Table as sheet-table
 use Rattle.organ.specs.Limits as organ-limits
 use Rattle.organ.specs.Organs as organ-organs
-use Rattle.drive.specs.Follow as drive-follow
-use Rattle.drive.specs.Hold as drive-hold
+use Rattle.drive_follow.specs.Follow as drive-follow
+use Rattle.drive_hold.specs.Hold as drive-hold
 use Rattle.fault.specs.Latches as fault-latches
-use Rattle.drive.specs.Shown as drive-shown
+use Rattle.drive_shown.specs.Shown as drive-shown
 use Rattle.ways.specs.Ways as ways-ways
 use Rattle.input.specs.Brought as input-brought
 use Rattle.tap.specs.Counted as tap-counted

@@ -5,7 +5,7 @@ use mathlib.Core.List.{List, [], _∷_}
 use Rattle.claim.specs.Claim.{Tick, Opening, restAfter}
 use Rattle.ways.specs.declared.Direction.{Direction}
 use Rattle.ways.specs.declared.Direction.the-variants.{Raise, Lower}
-use Rattle.drive.specs.Follow.{restsOf}
+use Rattle.drive_follow.specs.Follow.{restsOf}
 use Rattle.input.specs.declared.Input.{Input}
 use Rattle.input.specs.Brought.{contactsOf}
 use Rattle.command.specs.declared.Wait.{Wait}

@@ -8,9 +8,9 @@ use Rattle.common.specs.Choice.{choose}
 use Rattle.slots.specs.Slots.{slot, supplyTrip, wearCount, t7, t8, nMax}
 use Rattle.busbar.specs.declared.voltage.Level.{Level}
 use Rattle.busbar.specs.declared.voltage.Level.the-variants.{Missing, Low, InBand, High}
-use Rattle.drive.specs.Follow.{restsOf}
+use Rattle.drive_follow.specs.Follow.{restsOf}
 use Rattle.fault.specs.Latches.{supplyOf, fieldOf}
-use Rattle.drive.specs.Shown.{onOf}
+use Rattle.drive_shown.specs.Shown.{onOf}
 use Rattle.ways.specs.Ways.{raises, lowers}
 use Rattle.showing.specs.declared.Shown.{Shown}
 use Rattle.showing.specs.declared.Signals.{Signals}

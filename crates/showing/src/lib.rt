@@ -79,14 +79,14 @@ fn signals_of(s: &[u32; SLOTS], x: Shown) -> Signals
     let latch = x.latch;
     let fault = latch.fault;
     let level = x.level;
-    let on = drive::shown::command_on(d, s[T7]);
+    let on = drive_shown::command_on(d, s[T7]);
     let raise = ways::to_raise(on);
     let lower = ways::to_lower(on);
     let low = is_low(level);
     let high = is_high(level);
     let field = fault::fault_field(fault);
     let supply = fault::supply_trip(fault, x.before, s[T8], s[SUPPLY_TRIP] == 1);
-    let rests = drive::follow::rests(d);
+    let rests = drive_follow::rests(d);
     let operations = shown_operations(s[WEAR_COUNT] == 1, x.operations);
     Signals {
         raise: raise,

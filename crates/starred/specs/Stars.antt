@@ -23,10 +23,10 @@ use Rattle.sheet.specs.Sheet as sheet-sheet
 use Rattle.sheet.specs.Table as sheet-table
 use Rattle.organ.specs.Limits as organ-limits
 use Rattle.organ.specs.Organs as organ-organs
-use Rattle.drive.specs.Follow as drive-follow
-use Rattle.drive.specs.Hold as drive-hold
+use Rattle.drive_follow.specs.Follow as drive-follow
+use Rattle.drive_hold.specs.Hold as drive-hold
 use Rattle.fault.specs.Latches as fault-latches
-use Rattle.drive.specs.Shown as drive-shown
+use Rattle.drive_shown.specs.Shown as drive-shown
 use Rattle.ways.specs.Ways as ways-ways
 use Rattle.input.specs.Brought as input-brought
 use Rattle.tap.specs.Counted as tap-counted
