@@ -10,8 +10,8 @@ use Rattle.ways.specs.declared.Way.{Way}
 use Rattle.blocks.specs.declared.Blocks.{Blocks}
 use Rattle.command.specs.declared.Decided.{Decided}
 use Rattle.command.specs.declared.Situation.{Situation}
-use Rattle.command.specs.Automatic.{repeatOf}
-use Rattle.command.specs.Deciding.{decidedOf}
+use Rattle.command_automatic.specs.Automatic.{repeatOf}
+use Rattle.command_deciding.specs.Deciding.{decidedOf}
 use Rattle.sensing.specs.declared.assessing.Assessed.{Assessed}
 use Rattle.acting_commanding.specs.declared.Memory.{Memory}
 use Rattle.acting_commanding.specs.declared.Regulated.{Regulated}

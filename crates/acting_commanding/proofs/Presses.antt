@@ -9,7 +9,7 @@ use Rattle.drive_follow.specs.Follow.{restsOf}
 use Rattle.fault.specs.declared.Fault.{Fault}
 use Rattle.fault.specs.Latches.{isFault}
 use Rattle.ways.specs.declared.Way.the-variants.{Neither}
-use Rattle.command.specs.Manual.{rememberedOf}
+use Rattle.command_manual.specs.Manual.{rememberedOf}
 use Rattle.acting_commanding.specs.declared.Memory.{Memory}
 use Rattle.acting_commanding.specs.Commanding.{dropsOf, keptPressOf}
 

@@ -10,10 +10,10 @@ use Rattle.fault.specs.declared.Fault.{Fault}
 use Rattle.ways.specs.declared.Way.{Way}
 use Rattle.ways.specs.declared.Way.the-variants.{Neither}
 use Rattle.blocks.specs.declared.Blocks.{Blocks}
-use Rattle.command.specs.declared.pairs.Keys.{Keys}
-use Rattle.command.specs.Pairs.{pairOf, changedOf, heardOf}
-use Rattle.command.proofs.Presses.{none-begins}
-use Rattle.command.proofs.TwoPairs.{change-drops, held-through}
+use Rattle.command_pairs.specs.declared.Keys.{Keys}
+use Rattle.command_pairs.specs.Pairs.{pairOf, changedOf, heardOf}
+use Rattle.command_deciding.proofs.Presses.{none-begins}
+use Rattle.command_pairs.proofs.TwoPairs.{change-drops, held-through}
 use Rattle.sensing.specs.declared.assessing.Assessed.{Assessed}
 use Rattle.acting_commanding.specs.declared.Memory.{Memory}
 use Rattle.acting_commanding.specs.Commanding.{askOf, keysOf, heardIn, situationOf, decisionOf, regulatedOf, dropsOf, keptPressOf}

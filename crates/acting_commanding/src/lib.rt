@@ -5,8 +5,8 @@ use blocks::Blocks;
 use command::Buttons;
 use command::Situation;
 use command::Wait;
-use command::pairs::Heard;
-use command::pairs::Keys;
+use command_pairs::Heard;
+use command_pairs::Keys;
 use drive::Drive;
 use fault::Fault;
 use input::Contacts;
@@ -68,7 +68,7 @@ fn hear(c: Contacts, m: Memory) -> Heard
     let now = keys_of(c);
     let before = m.keys;
     let press = m.remembered;
-    command::pairs::hear(now, before, press)
+    command_pairs::hear(now, before, press)
 }
 
 fn situation(c: Contacts, a: Assessed, b: Blocks, m: Memory, d: Drive) -> Situation
@@ -111,14 +111,14 @@ pub fn regulate(
     ensures { λ r. ⌜ r ≡ regulatedOf (now (s .entry)) c a b m d ⌝ }
 {
     let x = situation(c, a, b, m, d);
-    let decided = command::decide(s, x);
+    let decided = command_deciding::decide(s, x);
     let command = decided.command;
     let wait = decided.wait;
     let level = a.level;
     let side = acting_judging::side_of(level);
     let band = acting_judging::is_in_band(level);
     let old = m.repeat;
-    let repeat = command::automatic::next_repeat(c.automatic, band, side, command, old);
+    let repeat = command_automatic::next_repeat(c.automatic, band, side, command, old);
     let drive = ask(d, c.automatic, command);
     Regulated {
         drive: drive,
@@ -146,5 +146,5 @@ pub fn remember(c: Contacts, f: Fault, m: Memory) -> Way
     let now = heard.buttons;
     let before = heard.before;
     let earlier = heard.remembered;
-    command::manual::remember(rested, dropped, now, before, earlier)
+    command_manual::remember(rested, dropped, now, before, earlier)
 }

@@ -21,7 +21,7 @@ ghost use Rattle.coding.specs.Numbers.{
 };
 use command::Buttons;
 use command::Wait;
-use command::pairs::Keys;
+use command_pairs::Keys;
 use drive::Drive;
 use fault::Fault;
 use ways::Direction;

@@ -1,4 +1,1 @@
-pub mod Deciding
-pub mod Automatic
-pub mod Pairs
-pub mod Manual
+pub mod Idling

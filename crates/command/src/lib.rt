@@ -1,14 +1,7 @@
-// Rule 9: the wait, the delay in force and the command that begins. It decides a command, and does not follow the drive.
+// What rule 9 goes by and what it decides: the wait, the buttons, the situation, the decision.
 ghost use mathlib.Core.Path.{_≡_};
-ghost use Rattle.command.specs.Automatic.{idleOf};
-ghost use Rattle.command.specs.Deciding.{decidedOf};
-
-pub mod automatic;
-pub mod manual;
-pub mod pairs;
-
+ghost use Rattle.command.specs.Idling.{idleOf};
 use blocks::Blocks;
-use slots::SLOTS;
 use ways::Direction;
 use ways::Way;
 
@@ -46,25 +39,12 @@ pub struct Decided {
     pub wait: Wait,
 }
 
-fn idle() -> Decided
+// No command, and a wait of 0.
+pub fn idle() -> Decided
     ensures { λ r. ⌜ r ≡ idleOf ⌝ }
 {
     Decided {
         command: Way::Neither,
         wait: Wait::Idle,
-    }
-}
-
-// Rule 9.
-pub fn decide(s: &[u32; SLOTS], x: Situation) -> Decided
-    ensures { λ r. ⌜ r ≡ decidedOf (now (s .entry)) x ⌝ }
-{
-    if !x.resting {
-        return idle();
-    }
-    if x.automatic {
-        automatic::automatic_mode(s, x)
-    } else {
-        manual::manual_mode(x)
     }
 }

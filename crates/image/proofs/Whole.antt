@@ -13,7 +13,7 @@ use Rattle.drive.specs.declared.Drive.{Drive}
 use Rattle.fault.specs.declared.Fault.{Fault}
 use Rattle.ways.specs.declared.Way.{Way}
 use Rattle.command.specs.declared.Wait.{Wait}
-use Rattle.command.specs.declared.pairs.Keys.{Keys}
+use Rattle.command_pairs.specs.declared.Keys.{Keys}
 use Rattle.record.specs.declared.Regulator.{Regulator}
 use Rattle.record.specs.Starting.{zerosOf}
 use Rattle.image.specs.declared.Image.{Image}

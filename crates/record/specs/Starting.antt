@@ -13,7 +13,7 @@ use Rattle.drive.specs.declared.Drive.the-variants.{Resting}
 use Rattle.fault.specs.declared.Fault.the-variants.{NoFault}
 use Rattle.ways.specs.declared.Way.the-variants.{Neither}
 use Rattle.command.specs.declared.Wait.the-variants.{Idle}
-use Rattle.command.specs.declared.pairs.Keys.{Keys}
+use Rattle.command_pairs.specs.declared.Keys.{Keys}
 use Rattle.record.specs.declared.Regulator.{Regulator}
 use Rattle.record.specs.declared.starting.Started.{Started}
 

@@ -3,7 +3,7 @@ pub mod limits;
 pub mod starting;
 
 use command::Wait;
-use command::pairs::Keys;
+use command_pairs::Keys;
 use drive::Drive;
 use fault::Latch;
 use organ::Organ;

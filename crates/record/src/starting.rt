@@ -8,7 +8,7 @@ ghost use Rattle.record.specs.Limits.{withinOf};
 use crate::Regulator;
 use command::Buttons;
 use command::Wait;
-use command::pairs::Keys;
+use command_pairs::Keys;
 use drive::Drive;
 use fault::Fault;
 use fault::Latch;

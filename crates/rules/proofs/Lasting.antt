@@ -32,8 +32,8 @@ use Rattle.command.specs.declared.Decided.{Decided}
 use Rattle.command.specs.declared.Situation.{Situation}
 use Rattle.command.specs.declared.Wait.{Wait}
 use Rattle.command.specs.declared.Wait.the-variants.{Idle, For}
-use Rattle.command.specs.Automatic.{delayOf}
-use Rattle.command.proofs.Sound.{Sound}
+use Rattle.command_automatic.specs.Automatic.{delayOf}
+use Rattle.command_deciding.proofs.Sound.{Sound}
 use Rattle.record.specs.Limits.{ticksOf, delaysOf, kindWithin, motionWithin, pressWithin}
 use Rattle.record.proofs.OfKind.{held-kind, kind-long, contact-kind}
 use Rattle.acting_accounting.specs.Accounting.{oneMoreOf, operationsOf}

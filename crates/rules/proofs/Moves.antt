@@ -16,7 +16,7 @@ use Rattle.drive_follow.specs.declared.Followed.{Followed}
 use Rattle.drive_follow.proofs.Serving as serving
 use Rattle.input.specs.declared.Input.{Input}
 use Rattle.command.specs.declared.Decided.{Decided}
-use Rattle.command.proofs.Sound.{decided-idle}
+use Rattle.command_deciding.proofs.Sound.{decided-idle}
 use Rattle.record.specs.declared.Regulator.{Regulator}
 use Rattle.acting_commanding.specs.Commanding.{askOf, situationOf}
 use Rattle.acting_supervising.specs.Supervising.{contactOf}

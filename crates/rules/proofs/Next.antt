@@ -25,7 +25,7 @@ use Rattle.input.specs.Brought.{contactsOf}
 use Rattle.blocks.proofs.Laws.{fault-blocks-automatic, fault-blocks-manual}
 use Rattle.command.specs.declared.Decided.{Decided}
 use Rattle.command.specs.declared.Situation.{Situation}
-use Rattle.command.proofs.Sound.{Sound, decided-sound, modeBlocked}
+use Rattle.command_deciding.proofs.Sound.{Sound, decided-sound, modeBlocked}
 use Rattle.record.specs.Limits.{kindWithin, motionWithin, pressWithin, countsWithin, withinOf, delaysOf}
 use Rattle.record.specs.declared.Regulator.{Regulator}
 use Rattle.record.proofs.Starts.{fresh-within}

@@ -26,7 +26,7 @@ use Rattle.blocks.specs.declared.Blocks.{Blocks}
 use Rattle.command.specs.declared.Decided.{Decided}
 use Rattle.command.specs.declared.Situation.{Situation}
 use Rattle.blocks.specs.Blocked.{opposedOf}
-use Rattle.command.specs.Deciding.{decidedOf}
+use Rattle.command_deciding.specs.Deciding.{decidedOf}
 use Rattle.record.specs.declared.Regulator.{Regulator}
 use Rattle.acting_supervising.specs.declared.Supervised.{Supervised}
 use Rattle.acting_judging.specs.Judging.{sideOf}

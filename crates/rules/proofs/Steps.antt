@@ -23,7 +23,7 @@ use Rattle.fault.proofs.Kept.{later-none}
 use Rattle.input.specs.declared.Input.{Input}
 use Rattle.blocks.proofs.Laws.{automatic-no-fault, automatic-not-local}
 use Rattle.blocks.specs.Blocked.{opposedOf}
-use Rattle.command.specs.Automatic.{waitedOf}
+use Rattle.command_automatic.specs.Automatic.{waitedOf}
 use Rattle.record.specs.declared.Regulator.{Regulator}
 use Rattle.record.specs.Limits.{withinOf}
 use Rattle.record.specs.Starting.{freshOf}

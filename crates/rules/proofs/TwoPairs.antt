@@ -16,9 +16,9 @@ use Rattle.input.specs.declared.Input.{Input}
 use Rattle.input.specs.Brought.{contactsOf, readingsOf}
 use Rattle.blocks.specs.Blocked.{blocksOf}
 use Rattle.command.specs.declared.Buttons.{Buttons}
-use Rattle.command.specs.declared.pairs.Keys.{Keys}
-use Rattle.command.specs.Pairs.{pairOf, changedOf, heardOf}
-use Rattle.command.proofs.TwoPairs.{withOther, other-unheard, change-forgets}
+use Rattle.command_pairs.specs.declared.Keys.{Keys}
+use Rattle.command_pairs.specs.Pairs.{pairOf, changedOf, heardOf}
+use Rattle.command_pairs.proofs.TwoPairs.{withOther, other-unheard, change-forgets}
 use Rattle.sheet.specs.Sheet.{passesOf}
 use Rattle.record.specs.declared.Regulator.{Regulator}
 use Rattle.record.specs.Limits.{motionWithin, pressWithin, countsWithin, withinOf}

@@ -32,8 +32,8 @@ use Rattle.input.specs.declared.Input.{Input}
 use Rattle.command.specs.declared.Decided.{Decided}
 use Rattle.command.specs.declared.Wait.{Wait}
 use Rattle.command.specs.declared.Wait.the-variants.{Idle, For}
-use Rattle.command.specs.Automatic.{ticksOf, waitedOf, delayOf, waitOnOf}
-use Rattle.command.proofs.Sound.{Waits, decided-sound, decided-waits}
+use Rattle.command_automatic.specs.Automatic.{ticksOf, waitedOf, delayOf, waitOnOf}
+use Rattle.command_deciding.proofs.Sound.{Waits, decided-sound, decided-waits}
 use Rattle.record.specs.declared.Regulator.{Regulator}
 use Rattle.record.specs.Limits.{withinOf}
 use Rattle.record.specs.Starting.{freshOf}

@@ -10,7 +10,7 @@ use Rattle.input.specs.declared.Input.{Input}
 use Rattle.input.specs.Brought.{contactsOf}
 use Rattle.command.specs.declared.Wait.{Wait}
 use Rattle.command.specs.declared.Wait.the-variants.{Idle, For}
-use Rattle.command.specs.Automatic.{delayOf}
+use Rattle.command_automatic.specs.Automatic.{delayOf}
 use Rattle.record.specs.declared.Regulator.{Regulator}
 use Rattle.record.specs.Limits.{withinOf}
 use Rattle.rules.specs.declared.Ticked.{Ticked}

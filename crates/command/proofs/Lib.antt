@@ -1,4 +1,0 @@
-pub mod Made
-pub mod Sound
-pub mod Presses
-pub mod TwoPairs

@@ -1,0 +1,2 @@
+pub mod Presses
+pub mod Sound
