@@ -17,7 +17,8 @@ use Rattle.claim.specs.Claim.{Tick, All, Kept}
 use Rattle.rules.specs.Ticks.{tickOf}
 use Rattle.rules.specs.Lists.{seen, ticksFrom, opening}
 use Rattle.rules.proofs.Claim.{kept}
-use Rattle.coding.specs.Numbers.{driveImage, waitImage}
+use Rattle.coding_drive.specs.Numbers.{driveImage}
+use Rattle.coding_wait.specs.Numbers.{waitImage}
 use Rattle.image.specs.declared.Image.{Image}
 use Rattle.image.specs.declared.bringing.Brought.{Brought}
 use Rattle.image.specs.Images.{imageOf, recordOf}

@@ -7,7 +7,7 @@ use Rattle.common.specs.Choice.{choose}
 use Rattle.ways.specs.declared.Direction.the-variants.{Raise, Lower}
 use Rattle.claim.specs.Claim.{Tick, Opening, restAfter}
 use Rattle.rules.specs.Lists.{delayIn}
-use Rattle.coding.specs.declared.WaitImage.{WaitImage}
+use Rattle.coding_wait.specs.declared.WaitImage.{WaitImage}
 use Rattle.image.specs.declared.Image.{Image}
 use Rattle.image.specs.declared.bringing.Brought.{Brought}
 use Rattle.image.specs.Images.{recordOf}

@@ -14,9 +14,9 @@ use Rattle.common.proofs.Done.{done, done-on}
 use Rattle.common.proofs.Places.{rest, rest-on, rest-no, rest-none}
 use Rattle.common.proofs.Joined.{and-left, and-right}
 use Rattle.image.specs.declared.places.OrganNumbers.{OrganNumbers}
-use Rattle.coding.specs.Numbers.{bitOf, isBit}
+use Rattle.coding_flag.specs.Numbers.{bitOf, isBit}
 use Rattle.image.specs.Places.{markOf, countOf, organNumbers, organOf, organsOf, areMarks}
-use Rattle.coding.proofs.Cases.{bit-back, bit-is, bit-same}
+use Rattle.coding_flag.proofs.Cases.{bit-back, bit-is, bit-same}
 
 -- ---- there and back
 

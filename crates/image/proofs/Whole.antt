@@ -18,15 +18,23 @@ use Rattle.record.specs.declared.Regulator.{Regulator}
 use Rattle.record.specs.Starting.{zerosOf}
 use Rattle.image.specs.declared.Image.{Image}
 use Rattle.image.specs.declared.FromImage.{FromImage}
-use Rattle.coding.specs.declared.DriveImage.{DriveImage}
-use Rattle.coding.specs.declared.WaitImage.{WaitImage}
-use Rattle.coding.specs.declared.KeyImage.{KeyImage}
+use Rattle.coding_drive.specs.declared.DriveImage.{DriveImage}
+use Rattle.coding_wait.specs.declared.WaitImage.{WaitImage}
+use Rattle.coding_keys.specs.declared.KeyImage.{KeyImage}
 use Rattle.image.specs.declared.images.WayNumbers.{WayNumbers}
 use Rattle.image.specs.declared.places.OrganNumbers.{OrganNumbers}
-use Rattle.coding.specs.Numbers.{isWay, wayOf, faultNumber, isFault, faultOf, driveImage, driveOf, isDrive, waitImage, waitOf, isWait, keyImage, keysOf, areKeys}
+use Rattle.coding_ways.specs.Numbers.{isWay, wayOf}
+use Rattle.coding_fault.specs.Numbers.{faultNumber, isFault, faultOf}
+use Rattle.coding_drive.specs.Numbers.{driveImage, driveOf, isDrive}
+use Rattle.coding_wait.specs.Numbers.{waitImage, waitOf, isWait}
+use Rattle.coding_keys.specs.Numbers.{keyImage, keysOf, areKeys}
 use Rattle.image.specs.Places.{organNumbers, organsOf, areMarks}
 use Rattle.image.specs.Images.{wayNumbers, imageOf, isRecord, stateOf, takenOf, recordOf}
-use Rattle.coding.proofs.Cases.{way-back, way-is, way-same, fault-back, fault-is, fault-same, drive-back, drive-is, drive-same, wait-back, wait-is, wait-same, keys-back, keys-are, keys-same}
+use Rattle.coding_ways.proofs.Cases.{way-back, way-is, way-same}
+use Rattle.coding_fault.proofs.Cases.{fault-back, fault-is, fault-same}
+use Rattle.coding_drive.proofs.Cases.{drive-back, drive-is, drive-same}
+use Rattle.coding_wait.proofs.Cases.{wait-back, wait-is, wait-same}
+use Rattle.coding_keys.proofs.Cases.{keys-back, keys-are, keys-same}
 use Rattle.image.proofs.Organs.{organs-back, organs-are, marks-same, counts-same}
 
 -- ---- from the record

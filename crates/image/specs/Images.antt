@@ -6,7 +6,11 @@ use Rattle.record.specs.Starting.{zerosOf}
 use Rattle.image.specs.declared.Image.{Image}
 use Rattle.image.specs.declared.FromImage.{FromImage}
 use Rattle.image.specs.declared.images.WayNumbers.{WayNumbers}
-use Rattle.coding.specs.Numbers.{wayNumber, isWay, wayOf, faultNumber, isFault, faultOf, driveImage, driveOf, isDrive, waitImage, waitOf, isWait, keyImage, keysOf, areKeys}
+use Rattle.coding_ways.specs.Numbers.{wayNumber, isWay, wayOf}
+use Rattle.coding_fault.specs.Numbers.{faultNumber, isFault, faultOf}
+use Rattle.coding_drive.specs.Numbers.{driveImage, driveOf, isDrive}
+use Rattle.coding_wait.specs.Numbers.{waitImage, waitOf, isWait}
+use Rattle.coding_keys.specs.Numbers.{keyImage, keysOf, areKeys}
 use Rattle.image.specs.Places.{organNumbers, organsOf, areMarks}
 
 -- the side of the last automatic command, the last direction and the remembered press

@@ -6,7 +6,7 @@ use lib.Dec.{eqb}
 use Rattle.common.specs.Places.{zip, every}
 use Rattle.organ.specs.declared.Organ.{Organ}
 use Rattle.image.specs.declared.places.OrganNumbers.{OrganNumbers}
-use Rattle.coding.specs.Numbers.{bitOf, isBit}
+use Rattle.coding_flag.specs.Numbers.{bitOf, isBit}
 
 unfoldable pub markOf : Organ → ℕ
 markOf o = bitOf (o .marked)

@@ -20,9 +20,9 @@ fn way_numbers(r: Regulator) -> WayNumbers
     let again = r.repeat;
     let before = r.last;
     let press = r.remembered;
-    let repeat = coding::way_number(again);
-    let last = coding::way_number(before);
-    let remembered = coding::way_number(press);
+    let repeat = coding_ways::way_number(again);
+    let last = coding_ways::way_number(before);
+    let remembered = coding_ways::way_number(press);
     WayNumbers {
         repeat: repeat,
         last: last,
@@ -45,11 +45,11 @@ pub fn image_of(r: Regulator) -> Image
     let numbers = crate::places::organ_numbers(organs);
     let marks = numbers.marks;
     let counts = numbers.counts;
-    let drive = coding::drive_image(d);
-    let fault = coding::fault_number(f);
-    let wait = coding::wait_image(w);
+    let drive = coding_drive::drive_image(d);
+    let fault = coding_fault::fault_number(f);
+    let wait = coding_wait::wait_image(w);
     let ways = way_numbers(r);
-    let keys = coding::key_image(k);
+    let keys = coding_keys::key_image(k);
     Image {
         settings: settings,
         organ_marks: marks,
@@ -76,10 +76,10 @@ fn is_record(m: Image) -> bool
     let w = m.wait;
     let k = m.keys;
     let marks = crate::places::are_marks(numbers);
-    let drive = coding::is_drive(d);
-    let wait = coding::is_wait(w);
+    let drive = coding_drive::is_drive(d);
+    let wait = coding_wait::is_wait(w);
     let ways = (m.repeat <= 2) & (m.last <= 2) & (m.remembered <= 2);
-    let keys = coding::are_keys(k);
+    let keys = coding_keys::are_keys(k);
     marks & drive & (m.fault <= 4) & wait & ways & keys
 }
 
@@ -94,13 +94,13 @@ fn state_of(m: Image) -> Regulator
     let w = m.wait;
     let k = m.keys;
     let organs = crate::places::organs_of(marks, counts);
-    let drive = coding::drive_of(d);
-    let fault = coding::fault_of(m.fault);
-    let wait = coding::wait_of(w);
-    let repeat = coding::way_of(m.repeat);
-    let last = coding::way_of(m.last);
-    let remembered = coding::way_of(m.remembered);
-    let keys = coding::keys_of(k);
+    let drive = coding_drive::drive_of(d);
+    let fault = coding_fault::fault_of(m.fault);
+    let wait = coding_wait::wait_of(w);
+    let repeat = coding_ways::way_of(m.repeat);
+    let last = coding_ways::way_of(m.last);
+    let remembered = coding_ways::way_of(m.remembered);
+    let keys = coding_keys::keys_of(k);
     Regulator {
         settings: settings,
         organs: organs,

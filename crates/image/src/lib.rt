@@ -4,9 +4,9 @@ pub mod bringing;
 pub mod images;
 pub mod places;
 
-use coding::DriveImage;
-use coding::KeyImage;
-use coding::WaitImage;
+use coding_drive::DriveImage;
+use coding_keys::KeyImage;
+use coding_wait::WaitImage;
 use record::Regulator;
 use slots::SLOTS;
 

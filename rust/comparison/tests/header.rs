@@ -189,9 +189,9 @@ fn named_counts() -> Vec<(String, usize)> {
 
 /// The structs of the boundary: the source, the name there, in C and in Rust.
 const STRUCTS: [(&str, &str, &str, &str); 9] = [
-    ("coding/src/lib.rt", "DriveImage", "avr_drive", "DriveImage"),
-    ("coding/src/lib.rt", "WaitImage", "avr_wait", "WaitImage"),
-    ("coding/src/lib.rt", "KeyImage", "avr_keys", "KeyImage"),
+    ("coding_drive/src/lib.rt", "DriveImage", "avr_drive", "DriveImage"),
+    ("coding_wait/src/lib.rt", "WaitImage", "avr_wait", "WaitImage"),
+    ("coding_keys/src/lib.rt", "KeyImage", "avr_keys", "KeyImage"),
     ("image/src/lib.rt", "Image", "avr_image", "Image"),
     ("image/src/bringing.rt", "Sample", "avr_sample", "Sample"),
     ("image/src/bringing.rt", "Brought", "avr_brought", "Brought"),
@@ -238,7 +238,7 @@ fn faults_and_refusals_have_the_librarys_numbers() {
     let faults = ["AVR_FAULT_NONE", "AVR_FAULT_RUN_AWAY", "AVR_FAULT_NOT_STARTED", "AVR_FAULT_LONG", "AVR_FAULT_FAST"];
     let answers = ["AVR_ACCEPTED", "AVR_REFUSED_LENGTH", "AVR_REFUSED_RANGE", "AVR_REFUSED_TAP_ORDER", "AVR_REFUSED_COUNTED"];
     let enums = [
-        ("avr_fault", arms("crates/coding/src/lib.rt", "fault_number"), &faults[..]),
+        ("avr_fault", arms("crates/coding_fault/src/lib.rt", "fault_number"), &faults[..]),
         ("avr_answer", arms("crates/sheet/src/lib.rt", "number"), &answers[..]),
     ];
     for (name, arms, rows_of_c) in enums {
