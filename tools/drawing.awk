@@ -1,188 +1,164 @@
-# crates.txt as an SVG: layers from the bottom, and the edges that no longer way says. Plain awk; used by tools/drawing.
+# crates.txt as an SVG: a frame for each room with its crates inside, and arrows between rooms alone. Plain awk; used by tools/drawing.
 #
-# A node is a crate, or a bend where an edge passes through a layer. `layer[n]`, `x[n]` are its place; `row[l, i]` the nodes of
-# a layer from left to right, `rows[l]` how many; `below[n, i]`, `belows[n]` the nodes that its edges go down to, `above` those
-# that they come up from.
+# A room stands on each room that has a crate which one of its own uses, one layer above the highest of them; rooms of one layer
+# stand side by side. An arrow is left out where a longer way says the same. A room's lines are numbered from 1 on, from its bottom;
+# crates that stand under no line of it are in line 0, without a label.
 
-BEGIN { WIDE = 92; NARROW = 18; SPACE = 14; HEIGHT = 30; STEP = 92; MARGIN = 24; SWEEPS = 24 }
+BEGIN {
+    WIDE = 1040; MARGIN = 20; PAD = 14; TITLE = 34; LABEL = 256; GAP = 36; BESIDE = 24; LANE = 16
+    BOX = 28; SPACE = 8; CHAR = 8.45; SIDES = 18
+}
 
+/^# == / { rooms++; title[rooms] = before($0); text[rooms] = after($0); next }
+/^# -- / { lines[rooms]++; label[rooms, lines[rooms]] = before($0); rule[rooms, lines[rooms]] = after($0); next }
 /^#/ || !/:/ { next }
 
 {
     name = $1
     sub(/:$/, "", name)
-    crate[++crates] = name
-    number[name] = crates
-    for (i = 2; i <= NF; i++) uses[name] = uses[name] " " $i
+    if (!rooms) stop(name " stands in no room")
+    home[name] = rooms
+    held[rooms, lines[rooms] + 0, ++count[rooms, lines[rooms] + 0]] = name
+    for (i = 2; i <= NF; i++) use(name, $i)
+    listed[name] = 1
 }
 
 END {
-    for (i = 1; i <= crates; i++) rise(i)
-    for (i = 1; i <= crates; i++) join_all(i)
-    least = keep(crossings())
-    for (i = 1; i <= SWEEPS; i++) { order(i % 2); if (crossings() < least) least = keep(crossings()) }
-    for (i = 1; i <= SWEEPS; i++) settle()
+    if (stopped) exit 1
+    for (used in wanted) if (used in home) stop(wanted[used] " uses " used ", which stands after it")
+    for (r = 1; r <= rooms; r++) rise(r)
+    for (r = 1; r <= rooms; r++) find_arrows(r)
+    place_all()
     draw()
 }
 
-# The layer of a crate: one above the highest that it uses. Crates of the toolchain, not listed, do not count.
-function rise(n,    used, count, i, m, k) {
-    count = split(uses[crate[n]], used, " ")
-    layer[n] = 1
-    for (i = 1; i <= count; i++) {
-        m = number[used[i]]
-        if (m == 0) continue
-        if (m >= n) { print "crates.txt: " crate[n] " uses " used[i] ", which stands after it" > "/dev/stderr"; exit 1 }
-        if (layer[m] >= layer[n]) layer[n] = layer[m] + 1
-        reaches[n, m] = 1
-        for (k = 1; k < m; k++) if (reaches[m, k]) reaches[n, k] = far[n, k] = 1
+function stop(why) {
+    print "crates.txt: " why > "/dev/stderr"
+    stopped = 1
+    exit 1
+}
+
+# A heading's two parts: '# == title: text'.
+function before(heading) { sub(/^# .. /, "", heading); sub(/: .*/, "", heading); return heading }
+function after(heading) { return sub(/^[^:]*: /, "", heading) ? heading : "" }
+
+# A crate uses another one. What is not listed by the end is the toolchain's.
+function use(name, used) {
+    if (!(used in listed)) { wanted[used] = name; return }
+    stood_on[used] = 1
+    if (home[used] != rooms) uses[rooms, home[used]] = 1
+}
+
+# The layer of a room, and the rooms that it reaches by way of another one.
+function rise(r,    m, k) {
+    layer[r] = 1
+    for (m = 1; m < r; m++) if (uses[r, m]) {
+        if (layer[m] >= layer[r]) layer[r] = layer[m] + 1
+        reaches[r, m] = 1
+        for (k = 1; k < m; k++) if (reaches[m, k]) reaches[r, k] = far[r, k] = 1
     }
-    add(n)
+    beside[layer[r]]++
+    if (layer[r] > layers) layers = layer[r]
 }
 
-function add(n,    l) {
-    l = layer[n]
-    row[l, ++rows[l]] = n
-    place[n] = rows[l]
-    if (l > layers) layers = l
-}
-
-# The edges of a crate down to what it uses, but for what one of these uses itself.
-function join_all(n,    used, count, i, m) {
-    count = split(uses[crate[n]], used, " ")
-    for (i = 1; i <= count; i++) {
-        m = number[used[i]]
-        if (m && !far[n, m]) { join(n, m); stands[m] = 1 }
+# The arrows down from a room. One that passes a layer goes by a lane of its own, right of all rooms.
+function find_arrows(r,    m) {
+    for (m = 1; m < r; m++) if (uses[r, m] && !far[r, m]) {
+        from[++arrows] = r
+        to[arrows] = m
+        if (layer[r] - layer[m] > 1) lane[arrows] = ++lanes
     }
 }
 
-# An edge, with a bend in each layer between.
-function join(from, to,    l, at) {
-    at = from
-    for (l = layer[from] - 1; l > layer[to]; l--) {
-        nodes++
-        layer[crates + nodes] = l
-        add(crates + nodes)
-        tie(at, crates + nodes)
-        at = crates + nodes
-    }
-    tie(at, to)
-}
-
-function tie(from, to) {
-    below[from, ++belows[from]] = to
-    above[to, ++aboves[to]] = from
-}
-
-# Puts the layers in the order of the mean places of their neighbours: upwards by those below, or downwards by those above.
-function order(up,    l) {
-    if (up) for (l = 2; l <= layers; l++) sort(l, below, belows)
-    else for (l = layers - 1; l >= 1; l--) sort(l, above, aboves)
-}
-
-function sort(l, others, count,    i, j, n) {
-    for (i = 1; i <= rows[l]; i++) mean[row[l, i]] = count[row[l, i]] ? mean_of(row[l, i], others, count, place) : place[row[l, i]]
-    for (i = 2; i <= rows[l]; i++) {
-        n = row[l, i]
-        for (j = i - 1; j >= 1 && mean[row[l, j]] > mean[n]; j--) row[l, j + 1] = row[l, j]
-        row[l, j + 1] = n
-    }
-    for (i = 1; i <= rows[l]; i++) place[row[l, i]] = (i - 0.5) / rows[l]
-}
-
-function mean_of(n, others, count, of,    i, sum) {
-    for (i = 1; i <= count[n]; i++) sum += of[others[n, i]]
-    return sum / count[n]
-}
-
-# How many edges cross.
-function crossings(    l, i, j, a, b, sum) {
-    for (l = 2; l <= layers; l++)
-        for (i = 1; i < rows[l]; i++)
-            for (j = i + 1; j <= rows[l]; j++)
-                for (a = 1; a <= belows[row[l, i]]; a++)
-                    for (b = 1; b <= belows[row[l, j]]; b++)
-                        sum += place[below[row[l, i], a]] > place[below[row[l, j], b]]
-    return sum + 0
-}
-
-# Keeps this order, each layer in the middle of the drawing.
-function keep(crossed,    l, i, n, at) {
-    for (l = 1; l <= layers; l++) {
-        at = 0
-        for (i = 1; i <= rows[l]; i++) {
-            n = row[l, i]
-            kept[l, i] = n
-            if (i > 1) at += room(row[l, i - 1], n)
-            x[n] = at
+# The place of each room: layers from the top, rooms of a layer with the same width, as high as the highest of them.
+function place_all(    l, r, all, at) {
+    all = WIDE - 2 * MARGIN - lanes * LANE
+    at = MARGIN
+    for (l = layers; l >= 1; l--) {
+        tall[l] = 0
+        seen = 0
+        for (r = 1; r <= rooms; r++) if (layer[r] == l) {
+            width[r] = (all - (beside[l] - 1) * BESIDE) / beside[l]
+            left[r] = MARGIN + seen++ * (width[r] + BESIDE)
+            top[r] = at
+            place(r)
+            if (height[r] > tall[l]) tall[l] = height[r]
         }
-        for (i = 1; i <= rows[l]; i++) x[row[l, i]] -= at / 2
+        for (r = 1; r <= rooms; r++) if (layer[r] == l) height[r] = tall[l]
+        at += tall[l] + GAP
     }
-    return crossed
+    bottom = at - GAP + MARGIN
 }
 
-# Moves each node towards the mean of its neighbours, as far as the nodes beside it leave room.
-function settle(    l, i, n, wish, left, right) {
-    for (l = 1; l <= layers; l++) {
-        for (i = 1; i <= rows[l]; i++) {
-            n = kept[l, i]
-            wish[i] = (sum_of(n, below, belows) + sum_of(n, above, aboves)) / (belows[n] + aboves[n])
-            left[i] = i > 1 ? most(wish[i], left[i - 1] + room(kept[l, i - 1], n)) : wish[i]
+# The place of each crate in a room: boxes from the left, and on in a new row where a box has no space left.
+function place(r,    line, i, n, x, start) {
+    start = left[r] + PAD + (lines[r] ? LABEL : 0)
+    at_y = top[r] + TITLE
+    for (line = lines[r] + 0; line >= 0; line--) {
+        if (!count[r, line]) continue
+        line_y[r, line] = at_y
+        x = start
+        for (i = 1; i <= count[r, line]; i++) {
+            n = held[r, line, i]
+            if (x > start && x + wide(n) > left[r] + width[r] - PAD) { x = start; at_y += BOX + SPACE }
+            box_x[n] = x
+            box_y[n] = at_y
+            x += wide(n) + SPACE
         }
-        for (i = rows[l]; i >= 1; i--) {
-            n = kept[l, i]
-            right[i] = i < rows[l] ? -most(-wish[i], room(n, kept[l, i + 1]) - right[i + 1]) : wish[i]
-            x[n] = (left[i] + right[i]) / 2
-        }
+        at_y += BOX + SPACE
     }
+    height[r] = at_y - SPACE + PAD - top[r]
 }
 
-function sum_of(n, others, count) { return count[n] ? count[n] * mean_of(n, others, count, x) : 0 }
-function most(a, b) { return a > b ? a : b }
+function wide(n) { return int(CHAR * length(n) + SIDES) }
 
-# The least distance of two middles.
-function room(a, b) { return (width(a) + width(b)) / 2 + SPACE }
-function width(n) { return n > crates ? NARROW : 8 * length(crate[n]) + 12 > WIDE ? 8 * length(crate[n]) + 12 : WIDE }
-function y(n) { return MARGIN + (layers - layer[n]) * STEP }
-
-function draw(    n, low, high, i, wide, tall) {
-    low = high = x[1]
-    for (n = 1; n <= crates + nodes; n++) {
-        if (x[n] - width(n) / 2 < low) low = x[n] - width(n) / 2
-        if (x[n] + width(n) / 2 > high) high = x[n] + width(n) / 2
-    }
-    for (n = 1; n <= crates + nodes; n++) x[n] += MARGIN - low
-    wide = high - low + 2 * MARGIN
-    tall = (layers - 1) * STEP + HEIGHT + 2 * MARGIN
-    printf "<svg xmlns=\"http://www.w3.org/2000/svg\" width=\"%.0f\" height=\"%.0f\" viewBox=\"0 0 %.0f %.0f\" ", wide, tall, wide, tall
-    print "role=\"img\" font-family=\"monospace\">"
-    print "<title>The crates as layers</title>"
-    print "<desc>Each crate stands on those that it uses. Dark ones are used from outside: no crate stands on them.</desc>"
-    printf "<rect width=\"%.0f\" height=\"%.0f\" fill=\"#FFFFFF\"/>\n", wide, tall
-    for (n = 1; n <= crates; n++) for (i = 1; i <= belows[n]; i++) edge(n, below[n, i])
-    for (n = 1; n <= crates; n++) box(n)
+function draw(    r, a, n) {
+    printf "<svg xmlns=\"http://www.w3.org/2000/svg\" width=\"%d\" height=\"%d\" viewBox=\"0 0 %d %d\" ", WIDE, bottom, WIDE, bottom
+    print "role=\"img\" font-family=\"sans-serif\" font-size=\"15\">"
+    print "<title>The crates in their rooms</title>"
+    print "<desc>A room stands on those that its arrows go down to. Dark crates are used from outside: no crate stands on them.</desc>"
+    print "<defs><marker id=\"tip\" markerWidth=\"12\" markerHeight=\"10\" refX=\"11\" refY=\"5\" orient=\"auto\" markerUnits=\"userSpaceOnUse\">"
+    print "<path d=\"M0 0L12 5L0 10Z\" fill=\"#5F6B7A\"/></marker></defs>"
+    printf "<rect width=\"%d\" height=\"%d\" fill=\"#FFFFFF\"/>\n", WIDE, bottom
+    for (r = 1; r <= rooms; r++) frame(r)
+    for (a = 1; a <= arrows; a++) arrow(a)
     print "</svg>"
 }
 
-# An edge from a crate down through its bends.
-function edge(from, to,    path, at, top) {
-    at = from
-    top = y(from) + HEIGHT
-    path = sprintf("M%.1f %.1f", x[from], top)
-    for (;;) {
-        path = path sprintf("C%.1f %.1f %.1f %.1f %.1f %.1f", x[at], top + STEP / 3, x[to], y(to) - STEP / 3, x[to], y(to))
-        if (to <= crates) break
-        path = path sprintf("V%.1f", y(to) + HEIGHT)
-        top = y(to) + HEIGHT
-        at = to
-        to = below[to, 1]
+function frame(r,    line, i) {
+    printf "<rect x=\"%.1f\" y=\"%d\" width=\"%.1f\" height=\"%d\" rx=\"8\" fill=\"#F2F6F9\" stroke=\"#8A97A6\"/>\n", left[r], top[r], width[r], height[r]
+    words(left[r] + PAD, top[r] + 23, width[r] - 2 * PAD, "bold", title[r], text[r])
+    for (line = 0; line <= lines[r]; line++) {
+        if (line && count[r, line]) words(left[r] + PAD, line_y[r, line] + 19, LABEL, "normal", label[r, line], rule[r, line])
+        for (i = 1; i <= count[r, line]; i++) box(held[r, line, i])
     }
-    printf "<path d=\"%s\" fill=\"none\" stroke=\"#5F6B7A\" stroke-width=\"1.2\"/>\n", path
+}
+
+function words(x, y, space, weight, name, more) {
+    if (8 * length(name " " more) > space) stop("the heading '" name ": " more "' is too long for its place")
+    printf "<text x=\"%.1f\" y=\"%d\" fill=\"#1B1F24\"><tspan font-weight=\"%s\">%s</tspan>", x, y, weight, name
+    printf "<tspan dx=\"8\" fill=\"#5F6B7A\">%s</tspan></text>\n", more
 }
 
 function box(n,    fill, ink) {
-    fill = stands[n] ? "#DCEBF5" : "#0072B2"
-    ink = stands[n] ? "#1B1F24" : "#FFFFFF"
-    printf "<rect x=\"%.1f\" y=\"%.1f\" width=\"%d\" height=\"%d\" rx=\"5\" fill=\"%s\"/>\n", x[n] - width(n) / 2, y(n), width(n), HEIGHT, fill
-    printf "<text x=\"%.1f\" y=\"%.1f\" font-size=\"14\" fill=\"%s\" text-anchor=\"middle\">%s</text>\n", x[n], y(n) + 20, ink, crate[n]
+    fill = n in stood_on ? "#D3E5F2" : "#0072B2"
+    ink = n in stood_on ? "#1B1F24" : "#FFFFFF"
+    printf "<rect x=\"%.1f\" y=\"%d\" width=\"%d\" height=\"%d\" rx=\"5\" fill=\"%s\"/>", box_x[n], box_y[n], wide(n), BOX, fill
+    printf "<text x=\"%.1f\" y=\"%d\" font-family=\"monospace\" font-size=\"14\" fill=\"%s\" text-anchor=\"middle\">%s</text>\n", box_x[n] + wide(n) / 2, box_y[n] + 19, ink, n
 }
+
+# An arrow between layers that touch goes straight down where one room is above the other, else from corner to corner.
+function arrow(a,    u, d, x, low, high, path) {
+    u = from[a]
+    d = to[a]
+    low = most(left[u], left[d])
+    high = -most(-left[u] - width[u], -left[d] - width[d])
+    if (lane[a]) {
+        x = WIDE - MARGIN - (lanes - lane[a]) * LANE
+        path = sprintf("M%.1f %dv%dH%.1fV%dH%.1fV%d", left[u] + width[u] - 30, top[u] + tall[layer[u]], GAP / 2, x, top[d] - GAP / 2, left[d] + width[d] - 30, top[d])
+    } else if (high > low) path = sprintf("M%.1f %dV%d", (low + high) / 2, top[u] + tall[layer[u]], top[d])
+    else path = sprintf("M%.1f %dL%.1f %d", low > left[u] ? high - 30 : low + 30, top[u] + tall[layer[u]], low > left[u] ? low + 30 : high - 30, top[d])
+    printf "<path d=\"%s\" fill=\"none\" stroke=\"#5F6B7A\" stroke-width=\"2\" marker-end=\"url(#tip)\"/>\n", path
+}
+
+function most(a, b) { return a > b ? a : b }
