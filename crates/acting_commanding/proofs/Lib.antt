@@ -1,4 +1,5 @@
 pub mod Made
+pub mod Opened
 pub mod Parts
 pub mod Presses
 pub mod TwoPairs

@@ -1,2 +1,3 @@
 pub mod EachKind
 pub mod Made
+pub mod Opened

@@ -1,4 +1,5 @@
 pub mod Halves
+pub mod Opened
 pub mod Values
 pub mod Bands
 pub mod Laws

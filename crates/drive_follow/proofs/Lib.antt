@@ -1,3 +1,4 @@
 pub mod Kept
+pub mod Opened
 pub mod Serving
 pub mod States

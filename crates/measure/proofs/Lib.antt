@@ -2,4 +2,5 @@ pub mod Facts
 pub mod FirstStep
 pub mod Fronts
 pub mod Laws
+pub mod Opened
 pub mod Qualities

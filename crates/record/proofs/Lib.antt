@@ -1,3 +1,4 @@
 pub mod OfKind
+pub mod Opened
 pub mod Waits
 pub mod Starts

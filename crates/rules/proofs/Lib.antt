@@ -3,6 +3,7 @@ pub mod Lasting
 pub mod Made
 pub mod Moves
 pub mod Next
+pub mod Opened
 pub mod Presses
 pub mod TwoPairs
 pub mod Rows

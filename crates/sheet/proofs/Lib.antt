@@ -1,4 +1,5 @@
 pub mod Every
+pub mod Opened
 pub mod Tables
 pub mod First
 pub mod Copies

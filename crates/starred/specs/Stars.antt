@@ -12,44 +12,11 @@ use Rattle.busbar.specs.Stars as voltage-stars
 use Rattle.tap.specs.Stars as tap-stars
 use Rattle.tap.specs.declared.position.Position.{Position}
 use Rattle.organ.specs.Stars as organ-stars
-use Rattle.organ.specs.Runs as organ-runs
 use Rattle.claim.specs.Claim.{Tick, output}
 use Rattle.rules.specs.Lists.{ticksFrom}
+use Rattle.rules.proofs.Opened.{opened}
 use Rattle.claim.specs.Scenes.{plainSheet, lowOpen}
-use Rattle.common.specs.Choice as common-choice
-use Rattle.common.specs.Places as common-places
-use Rattle.measure.specs.Readings as measure-readings
-use Rattle.sheet.specs.Sheet as sheet-sheet
-use Rattle.sheet.specs.Table as sheet-table
-use Rattle.organ.specs.Limits as organ-limits
-use Rattle.organ.specs.Organs as organ-organs
-use Rattle.drive_follow.specs.Follow as drive-follow
-use Rattle.drive_hold.specs.Hold as drive-hold
-use Rattle.fault.specs.Latches as fault-latches
-use Rattle.drive_shown.specs.Shown as drive-shown
-use Rattle.ways.specs.Ways as ways-ways
-use Rattle.input.specs.Brought as input-brought
-use Rattle.tap.specs.Counted as tap-counted
-use Rattle.tap.specs.Positions as tap-positions
-use Rattle.tap.specs.Sliding as tap-sliding
-use Rattle.blocks.specs.Blocked as blocks-blocked
-use Rattle.busbar.specs.Deviation as busbar-deviation
-use Rattle.busbar.specs.Section as busbar-section
-use Rattle.busbar.specs.Voltage as busbar-voltage
-use Rattle.command_automatic.specs.Automatic as command-automatic
-use Rattle.command_deciding.specs.Deciding as command-deciding
-use Rattle.command_manual.specs.Manual as command-manual
-use Rattle.record.specs.Limits as record-limits
 use Rattle.record.specs.Starting as record-starting
-use Rattle.acting_accounting.specs.Accounting as acting-accounting
-use Rattle.sensing.specs.Assessing as sensing-assessing
-use Rattle.acting_commanding.specs.Commanding as acting-commanding
-use Rattle.acting_judging.specs.Judging as acting-judging
-use Rattle.sensing.specs.Observing as sensing-observing
-use Rattle.sensing.specs.Protecting as sensing-protecting
-use Rattle.showing.specs.Showing as showing
-use Rattle.acting_supervising.specs.Supervising as acting-supervising
-use Rattle.rules.specs.Ticks as rules-ticks
 
 -- readings; the voltage and its band; the tap; the organs; and, for a T1, the tick of a low voltage from the fresh record on which raise is on
 pub data Star : Type 0 where
@@ -93,5 +60,5 @@ found (Star.organ s) = Shown.organ (organ-stars.found s)
 found (Star.raising d n) = Shown.raising (raises d n)
 
 pub stars-are : map found stars ≡ map expected stars
-unfolding ofBits organ-runs.runOf common-choice.choose common-places.zip measure-readings.goodOf measure-readings.heldOf measure-readings.measuredOf sheet-sheet.firstFrom sheet-sheet.takenIn sheet-sheet.firstOutOfRange sheet-sheet.judgeOf sheet-sheet.passesOf sheet-table.rowIn sheet-table.rowOf sheet-table.moduleFactor sheet-table.factorOf sheet-table.lowOf sheet-table.highOf sheet-table.stepOf sheet-table.takenOf sheet-table.takenBy organ-limits.organWithin common-places.every organ-limits.organsWithin organ-organs.organOf organ-organs.tripOf drive-follow.ownOf drive-follow.restOf drive-follow.askedOf drive-follow.movingOf drive-follow.supervisedOf drive-follow.followOf drive-follow.withinOf drive-hold.endsOf drive-hold.automaticOf drive-hold.manualOf drive-hold.heldFrom drive-hold.holdOf drive-hold.withinOf fault-latches.resetOf fault-latches.laterOf fault-latches.ageOf fault-latches.latchedOf drive-shown.onOf ways-ways.newerOf input-brought.readingsOf tap-counted.upOf tap-counted.downOf tap-counted.stepOf tap-counted.movedOf tap-counted.countedOf tap-positions.rangedOf tap-positions.bcdOf tap-positions.positionOf tap-sliding.standsIn tap-sliding.slidingOf blocks-blocked.endOf blocks-blocked.organsAutomaticOf blocks-blocked.anyTripOf blocks-blocked.tapLostOf blocks-blocked.blocksOf busbar-deviation.supplyOf busbar-deviation.lowOf busbar-deviation.highOf busbar-deviation.bandOf busbar-deviation.levelOf busbar-deviation.farAbove busbar-section.sectionOf busbar-voltage.goodOf busbar-voltage.both busbar-voltage.currentOf busbar-voltage.dropOf busbar-voltage.isRating busbar-voltage.isRated busbar-voltage.voltageDrop busbar-voltage.voltageOf command-automatic.ticksOf command-automatic.waitedOf command-automatic.delayOf command-automatic.waitOnOf command-automatic.towardOf command-automatic.sidedOf command-automatic.keptOf command-automatic.repeatOf command-deciding.decidedOf command-manual.pressedOf command-manual.soughtOf command-manual.grantedOf command-manual.manualOf command-manual.rememberedOf record-limits.ticksOf record-limits.delaysOf record-limits.kindWithin record-limits.motionWithin record-limits.pressWithin record-limits.countsWithin record-limits.withinOf record-starting.freshOf acting-accounting.oneMoreOf acting-accounting.operationsOf acting-accounting.accountedOf sensing-assessing.uOf sensing-assessing.assessedOf acting-judging.sideOf acting-judging.blockedOf acting-commanding.askOf acting-commanding.situationOf acting-commanding.decisionOf acting-commanding.regulatedOf acting-commanding.dropsOf acting-commanding.keptPressOf sensing-observing.observedOf sensing-protecting.amountOf sensing-protecting.organInputOf sensing-protecting.organInputsOf sensing-protecting.protectedOf showing.countedOf showing.signalsOf showing.fieldsOf showing.outputsOf acting-supervising.contactOf acting-supervising.holdingOf acting-supervising.clearedOf acting-supervising.followedOf acting-supervising.supervisedOf rules-ticks.observedIn rules-ticks.protectedIn rules-ticks.assessedIn rules-ticks.sensedOf rules-ticks.supervisedIn rules-ticks.blockedIn rules-ticks.regulatedIn rules-ticks.rememberedIn rules-ticks.accountedIn rules-ticks.actedOf rules-ticks.nextOf rules-ticks.endOf rules-ticks.ranOf rules-ticks.isOut rules-ticks.outOf rules-ticks.refusedOf rules-ticks.tickOf
+unfolding ofBits opened
 stars-are = refl
