@@ -5,7 +5,8 @@ use mathlib.Core.Bool.{true}
 use mathlib.Core.List.{List, [], _∷_, _++_, map}
 use Prim.Native.Nat.{ℕ}
 use lib.Ieee.{ofBits}
-use lib.ListN.{replicate}
+use lib.ListN.{replicate, set}
+use Rattle.slots.specs.Slots.{wearCount}
 use Rattle.claim.specs.Claim.{Tick, Opening, All, Some, Begins, Command, output, Kept}
 use Rattle.claim.specs.Scenes.{variedSheet, heldSheet, brought}
 use Rattle.claim.proofs.Ticks.{raises, high, heldLow, heldHigh, closedContact, resetContact}
@@ -126,6 +127,24 @@ heldPairRows =
     (0x200001, (0, 0, 0)) ∷ (0x600001, (1, 0, 1)) ∷ (0xA00001, (1, 0, 1))
     ∷ (replicate 22 (0x380001, (1, 0, 1)) ++ ((0x380001, (0, 0, 0)) ∷ (0x380001, (0, 1, 1)) ∷ (0x180001, (0, 1, 1)) ∷ []))
 
+-- with the wear count, in manual mode at 100 V: the contacts of each tick, and its output 25, operations
+abbrev Count : Type 0
+Count = ℕ × ℕ
+
+abbrev counting : List ℕ → Regulator
+counting s = freshOf (set s wearCount 1)
+
+abbrev countsOf : Regulator → List Count → List ℕ
+countsOf r rows = map (λ t. output 25 t) (ticksFrom (restsOf (r .drive)) r (map (λ p. brought 0x42C8_0000 (p .0)) rows))
+
+-- rule 7: a raise counts on the tick on which its move ends
+abbrev countRows : List Count
+countRows = (0x000001, 0) ∷ (0x080001, 0) ∷ (replicate 3 (0x000003, 0) ++ ((0x000001, 1) ∷ (0x000001, 1) ∷ []))
+
+-- 02, ticket 2: without a switching contact, on the tick on which the command ends
+abbrev heldCountRows : List Count
+heldCountRows = (0x000001, 0) ∷ (0x080001, 0) ∷ (replicate 23 (0x000001, 0) ++ ((0x000001, 1) ∷ (0x000001, 1) ∷ []))
+
 pub record Given : Type 0 where
   pub early : ticksFrom (restsOf (fresh .drive)) fresh (served 4 5) ≡ servedList 4 5
   pub bound : ticksFrom (restsOf (fresh .drive)) fresh (served 21 24) ≡ servedList 21 24
@@ -139,6 +158,8 @@ pub record Given : Type 0 where
   pub heldPressed : commandsOf freshHeld (pressTicks heldPressRows) ≡ map (λ p. p .1) heldPressRows
   pub paired : commandsOf fresh (pressTicks pairRows) ≡ map (λ p. p .1) pairRows
   pub heldPaired : commandsOf freshHeld (pressTicks heldPairRows) ≡ map (λ p. p .1) heldPairRows
+  pub counted : countsOf (counting variedSheet) countRows ≡ map (λ p. p .1) countRows
+  pub heldCounted : countsOf (counting heldSheet) heldCountRows ≡ map (λ p. p .1) heldCountRows
   pub onFresh : opening fresh ≡ freshOpening
   pub onWaiting : opening waiting ≡ waitingOpening
   pub onHeld : opening freshHeld ≡ heldOpening
@@ -160,6 +181,8 @@ given =
       heldPressed = refl;
       paired = refl;
       heldPaired = refl;
+      counted = refl;
+      heldCounted = refl;
       onFresh = refl;
       onWaiting = refl;
       onHeld = refl;
