@@ -2,17 +2,17 @@
 //! arises there, in both modes and with both kinds of drive, often enough that a
 //! comparison over made recordings means something.
 
+mod common;
+
 use std::collections::BTreeMap;
 use std::ops::Range;
 
-use reference::input::{bit, Contacts, Input};
+use common::scenes::{Seen, ENOUGH};
+use reference::input::{bit, Contacts};
 use reference::record::{Direction, Drive, Fault, Record};
 use reference::scene::Scene;
 use reference::sheet::{is_continuous, slot};
-use reference::tick::{tick, Ticked, OUTPUTS};
-
-/// How often each situation must arise, with either kind of drive.
-const ENOUGH: u32 = 10;
+use reference::tick::tick;
 
 /// The modes, and the place of each one's pair in the arrays here.
 const MODES: [&str; 2] = ["local", "remote"];
@@ -31,28 +31,9 @@ fn pairs_before(record: &Record) -> [Pair; 2] {
     [[record.raise_button, record.lower_button], [record.remote_raise, record.remote_lower]]
 }
 
-/// One simulated tick.
-struct Seen<'a> {
-    before: &'a Record,
-    input: &'a Input,
-    ticked: &'a Ticked,
-}
-
 impl Seen<'_> {
-    fn on(&self, bit: u32) -> bool {
-        self.input.contacts.on(bit)
-    }
-
     fn mode(&self) -> usize {
         usize::from(self.on(bit::REMOTE))
-    }
-
-    fn changes(&self) -> bool {
-        self.on(bit::REMOTE) != self.before.remote
-    }
-
-    fn unfinished(&self) -> bool {
-        self.before.drive != Drive::Rest
     }
 
     /// Whether each button of a mode's pair is pressed, and whether newly.
@@ -93,9 +74,8 @@ impl Seen<'_> {
 
     /// Manual, in service, and nothing that drops a press whatever the pairs do.
     fn counts(&self) -> bool {
-        let out = self.ticked.outputs == [0; OUTPUTS] && self.on(bit::OUT);
         let dropped = self.on(bit::AUTOMATIC) || self.on(bit::LOCAL_DRIVE) || self.ticked.next.fault != Fault::None;
-        self.before.settings[slot::IN_SERVICE] == 1 && !out && !dropped
+        self.before.settings[slot::IN_SERVICE] == 1 && !self.out() && !dropped
     }
 
     /// Whether a press this way could begin a command on this tick.

@@ -2,40 +2,20 @@
 //! of arises there, often enough that a comparison over made recordings means
 //! something.
 
+mod common;
+
 use std::collections::BTreeMap;
 
-use reference::input::{bit, Input};
+use common::scenes::{Seen, ENOUGH};
+use reference::input::bit;
 use reference::record::{Direction, Drive, Fault, Record};
 use reference::scene::Scene;
 use reference::sheet::is_continuous;
-use reference::tick::{Ticked, OUTPUTS};
-
-/// How often each situation must arise.
-const ENOUGH: u32 = 10;
-
-/// One simulated tick.
-struct Seen<'a> {
-    before: &'a Record,
-    input: &'a Input,
-    ticked: &'a Ticked,
-}
 
 impl Seen<'_> {
-    fn on(&self, bit: u32) -> bool {
-        self.input.contacts.on(bit)
-    }
-
-    fn unfinished(&self) -> bool {
-        self.before.drive != Drive::Rest
-    }
-
     /// The command or move is over with this tick.
     fn ends(&self) -> bool {
         self.unfinished() && self.ticked.next.drive == Drive::Rest
-    }
-
-    fn out(&self) -> bool {
-        self.ticked.outputs == [0; OUTPUTS] && self.on(bit::OUT)
     }
 
     /// The buttons of the mode's pair, whether pressed and whether newly.
@@ -46,11 +26,6 @@ impl Seen<'_> {
             true => [(bit::REMOTE_RAISE, remote_raise), (bit::REMOTE_LOWER, remote_lower)],
         };
         pair.map(|(bit, before)| (self.on(bit), self.on(bit) && !before))
-    }
-
-    /// Ticket 7's change of mode drops a press too; tests/pair_scenes.rs counts it.
-    fn mode_changes(&self) -> bool {
-        self.on(bit::REMOTE) != self.before.remote
     }
 
     fn press(&self) -> Option<Direction> {
@@ -174,7 +149,8 @@ fn counts() -> Counts {
             let (input, ticked) = scene.next_tick();
             let seen = Seen { before: &before, input: &input, ticked: &ticked };
             match before.remembered {
-                _ if seen.mode_changes() => {}
+                // Ticket 7's change of mode drops a press too; tests/pair_scenes.rs counts it.
+                _ if seen.changes() => {}
                 _ if seen.unfinished() => counts.during(&seen),
                 Some(remembered) => counts.first(&seen, remembered),
                 None => {}

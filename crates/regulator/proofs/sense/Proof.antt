@@ -8,19 +8,15 @@ use Rattle.sensing.proofs.assessing.assess.Reads as assess-reads
 use Rattle.sensing.proofs.observing.observe.Reads as observe-reads
 use Rattle.sensing.proofs.protecting.protect.Reads as protect-reads
 
--- src/lib.rt:56:9
 observe-requires : tie.Need-observe-requires
 observe-requires c κs = search needs
 
--- src/lib.rt:58:9
 protect-requires : tie.Need-protect-requires
 protect-requires c κs = search needs
 
--- src/lib.rt:59:9
 assess-requires : tie.Need-assess-requires
 assess-requires c κs = search needs
 
--- src/lib.rt:51:1
 returns : tie.Need-returns
 returns c = search sense-made
 

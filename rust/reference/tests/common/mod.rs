@@ -4,6 +4,7 @@
 
 pub mod courses;
 pub mod modes;
+pub mod scenes;
 
 use reference::floats::{float_of, part_of};
 use reference::input::{bit, Input, READINGS};
