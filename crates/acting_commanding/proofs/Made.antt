@@ -15,7 +15,7 @@ use Rattle.command_deciding.specs.Deciding.{decidedOf}
 use Rattle.sensing.specs.declared.assessing.Assessed.{Assessed}
 use Rattle.acting_commanding.specs.declared.Memory.{Memory}
 use Rattle.acting_commanding.specs.declared.Regulated.{Regulated}
-use Rattle.acting_judging.specs.Judging.{sideOf, isInBand}
+use Rattle.busbar_level.specs.Levels.{sideOf, isInBand}
 use Rattle.acting_commanding.specs.Commanding.{askOf, situationOf, decisionOf, regulatedOf}
 
 -- rule 9

@@ -22,7 +22,7 @@ use Rattle.command_pairs.specs.Pairs.{heardOf}
 use Rattle.sensing.specs.declared.assessing.Assessed.{Assessed}
 use Rattle.acting_commanding.specs.declared.Memory.{Memory}
 use Rattle.acting_commanding.specs.declared.Regulated.{Regulated}
-use Rattle.acting_judging.specs.Judging.{sideOf, isInBand}
+use Rattle.busbar_level.specs.Levels.{sideOf, isInBand}
 
 -- a command that begins is asked, at age 0, in the mode of its tick
 unfoldable pub askOf : Drive → Bool → Way → Drive

@@ -78,7 +78,7 @@ fn situation(c: Contacts, a: Assessed, b: Blocks, m: Memory, d: Drive) -> Situat
     let rested = drive_follow::rests(was);
     let rests = drive_follow::rests(d);
     let level = a.level;
-    let side = acting_judging::side_of(level);
+    let side = busbar_level::side_of(level);
     let wait = m.wait;
     let repeat = m.repeat;
     let heard = hear(c, m);
@@ -115,8 +115,8 @@ pub fn regulate(
     let command = decided.command;
     let wait = decided.wait;
     let level = a.level;
-    let side = acting_judging::side_of(level);
-    let band = acting_judging::is_in_band(level);
+    let side = busbar_level::side_of(level);
+    let band = busbar_level::is_in_band(level);
     let old = m.repeat;
     let repeat = command_automatic::next_repeat(c.automatic, band, side, command, old);
     let drive = ask(d, c.automatic, command);

@@ -15,8 +15,8 @@ use Rattle.phasor.specs.declared.Vector.{Vector}
 use Rattle.phasor.specs.declared.Vector.the-variants.{Is}
 use Rattle.root.specs.Roots.{rootOf, Root}
 use Rattle.root.proofs.Laws.{root-is, root-monotone}
-use Rattle.busbar.specs.declared.voltage.Value.{Value}
-use Rattle.busbar.specs.declared.voltage.Value.the-variants as value
+use Rattle.busbar_current.specs.declared.Value.{Value}
+use Rattle.busbar_current.specs.declared.Value.the-variants as value
 use Rattle.line.proofs.Made.{end-made}
 use Rattle.line.specs.Along.{pickedOf, scaledOf, dropRe, dropIm, remainsOf, squaresOf, magnitudeOf, farEndOf, alongOf}
 

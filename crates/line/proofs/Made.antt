@@ -14,8 +14,8 @@ use Rattle.measure.specs.Readings.{limitOf}
 use Rattle.phasor.specs.declared.Phasors.{Phasors}
 use Rattle.phasor.specs.declared.Vector.{Vector}
 use Rattle.phasor.specs.Pairs.{vectorOf, Within}
-use Rattle.busbar.specs.declared.voltage.Value.{Value}
-use Rattle.busbar.specs.declared.voltage.Value.the-variants as value
+use Rattle.busbar_current.specs.declared.Value.{Value}
+use Rattle.busbar_current.specs.declared.Value.the-variants as value
 use Rattle.input.specs.Brought.{currentOf}
 use Rattle.line.specs.Along.{highest, mostPart, pickedOf, remainsOf, magnitudeOf, farEndOf, alongOf}
 use Rattle.line.proofs.Parts.{more, remains-within, picked-within}

@@ -19,8 +19,8 @@ use Rattle.phasor.specs.declared.Vector.the-variants.{Missing, Is}
 use Rattle.phasor.specs.Pairs.{Within}
 use Rattle.root.specs.Roots.{rootOf, Root}
 use Rattle.root.proofs.Laws.{root-most}
-use Rattle.busbar.specs.declared.voltage.Value.{Value}
-use Rattle.busbar.specs.declared.voltage.Value.the-variants as value
+use Rattle.busbar_current.specs.declared.Value.{Value}
+use Rattle.busbar_current.specs.declared.Value.the-variants as value
 use Rattle.line.specs.Along.{highest, mostPart, mostCurrent, mostDrop, mostRemains, byParts, sumOf, differenceOf, pickedOf, dropRe, dropIm, remainsOf, squaresOf, magnitudeOf}
 use Rattle.line.proofs.Bounds.{re-most, im-most}
 

@@ -16,8 +16,8 @@ use Rattle.phasor.specs.declared.Vector.the-variants.{Missing, Is}
 use Rattle.phasor.specs.Pairs.{vectorOf}
 use Rattle.root.specs.Roots.{rootOf}
 use Rattle.input.specs.Brought.{currentOf}
-use Rattle.busbar.specs.declared.voltage.Value.{Value}
-use Rattle.busbar.specs.declared.voltage.Value.the-variants as value
+use Rattle.busbar_current.specs.declared.Value.{Value}
+use Rattle.busbar_current.specs.declared.Value.the-variants as value
 
 -- R and X: "0–400,000 with 1 A", and with 5 A less; no taken sheet has more
 abbrev pub highest : ℕ

@@ -4,7 +4,7 @@ ghost use Prim.Native.Nat.{_≤_, _^_};
 ghost use lib.IntN.{natAbs};
 ghost use Rattle.phasor.specs.Pairs.{Within};
 ghost use Rattle.line.specs.Along.{highest, mostPart, mostCurrent, mostProduct, mostDrop, mostRemains, sumOf, differenceOf, pickedOf, scaledOf, dropRe, dropIm, remainsOf, squaresOf, magnitudeOf, farEndOf, alongOf};
-use busbar::voltage::Value;
+use busbar_current::Value;
 use measure::Channel;
 use phasor::Phasors;
 use phasor::Vector;

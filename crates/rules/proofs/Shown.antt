@@ -7,8 +7,8 @@ use native.Mathlib.Omega.{arith}
 use lib.Dec.{eqb}
 use lib.ListN.{getD}
 use Rattle.slots.specs.Slots.{slot, t7}
-use Rattle.busbar.specs.declared.voltage.Level.{Level}
-use Rattle.busbar.specs.declared.voltage.Level.the-variants.{Missing, Low, InBand, High}
+use Rattle.busbar_level.specs.declared.Level.{Level}
+use Rattle.busbar_level.specs.declared.Level.the-variants.{Missing, Low, InBand, High}
 use Rattle.ways.specs.declared.Direction.{Direction}
 use Rattle.ways.specs.declared.Direction.the-variants.{Raise, Lower}
 use Rattle.drive.specs.declared.Drive.{Drive}
@@ -29,7 +29,7 @@ use Rattle.blocks.specs.Blocked.{opposedOf}
 use Rattle.command_deciding.specs.Deciding.{decidedOf}
 use Rattle.record.specs.declared.Regulator.{Regulator}
 use Rattle.acting_supervising.specs.declared.Supervised.{Supervised}
-use Rattle.acting_judging.specs.Judging.{sideOf}
+use Rattle.busbar_level.specs.Levels.{sideOf}
 use Rattle.acting_commanding.specs.Commanding.{askOf, situationOf, decisionOf, regulatedOf}
 use Rattle.showing.specs.Showing as showing
 use Rattle.showing.specs.Showing.{isLow, isHigh, signalsOf, fieldsOf, outputsOf}

@@ -27,7 +27,8 @@ use Rattle.command_automatic.specs.Automatic.{waitedOf}
 use Rattle.record.specs.declared.Regulator.{Regulator}
 use Rattle.record.specs.Limits.{withinOf}
 use Rattle.record.specs.Starting.{freshOf}
-use Rattle.acting_judging.specs.Judging.{blockedOf, sideOf}
+use Rattle.acting_judging.specs.Judging.{blockedOf}
+use Rattle.busbar_level.specs.Levels.{sideOf}
 use Rattle.acting_supervising.specs.Supervising.{clearedOf, followedOf, supervisedOf}
 use Rattle.rules.specs.declared.Ticked.{Ticked}
 use Rattle.rules.specs.Ticks.{findingOf, supervisedIn, blockedIn, isOut, outOf, refusedOf, tickOf}

@@ -19,7 +19,7 @@ pub fn observe(s: &[u32; SLOTS], i: Input, breaker_closed: bool, counted: u32) -
 {
     let readings = input::measure_all(i, s[MODULE] == 1);
     let i_bus = readings.i_bus;
-    let section = busbar::section::section(s, breaker_closed, i_bus);
+    let section = busbar_section::section(s, breaker_closed, i_bus);
     let position = tap::position::read_position(s, i.bcd, i.sensor, counted);
     Observed {
         readings: readings,

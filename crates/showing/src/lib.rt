@@ -2,7 +2,7 @@
 ghost use mathlib.Core.Path.{_≡_};
 ghost use Rattle.showing.specs.Showing.{isLow, isHigh, countedOf, signalsOf, fieldsOf, outputsOf};
 use blocks::Blocks;
-use busbar::voltage::Level;
+use busbar_level::Level;
 use drive::Drive;
 use fault::Latch;
 use slots::N_MAX;

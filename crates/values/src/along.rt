@@ -3,7 +3,7 @@
 use crate::print;
 use crate::readings;
 use crate::sum;
-use busbar::voltage::Value;
+use busbar_current::Value;
 use measure::Reading;
 use phasor::Phasor;
 use phasor::Phasors;

@@ -3,7 +3,7 @@ use crate::along;
 use crate::print;
 use crate::readings;
 use crate::sum;
-use busbar::voltage::Value;
+use busbar_current::Value;
 use measure::Measured;
 use slots::BREAKER_RATING;
 use slots::COMPENSATION;
@@ -137,7 +137,7 @@ fn voltage(w: Row) -> Value {
     s[U_COMP] = w.u_comp;
     s[CT_RATING] = w.ct;
     s[BREAKER_RATING] = w.breaker;
-    busbar::voltage::voltage(
+    busbar_compensation::voltage(
         &s,
         Measured::Good(w.u_ab),
         Measured::Good(w.i_bus),

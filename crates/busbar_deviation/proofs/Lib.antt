@@ -1,0 +1,4 @@
+pub mod Halves
+pub mod Limits
+pub mod Bands
+pub mod Laws
