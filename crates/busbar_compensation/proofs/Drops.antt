@@ -18,7 +18,7 @@ use Rattle.common.proofs.Joined.{and-left, and-right}
 use Rattle.common.proofs.Signed.{Stands, exactly, small, fits, read, back, cast, cast-to, sub, mul, quot}
 use Rattle.slots.specs.Slots.{slot, uComp, moduleKind, ctRating, breakerRating}
 use Rattle.sheet.specs.Table.{moduleFactor}
-use Rattle.busbar_current.specs.Current.{highest, mostCurrent, differenceOf, Within}
+use Rattle.busbar_current.specs.Current.{mostReading, mostCurrent, differenceOf, Within}
 use Rattle.busbar_current.specs.declared.Value.{Value}
 use Rattle.busbar_current.specs.declared.Value.the-variants.{Missing, Is}
 use Rattle.busbar_current.proofs.Values.{first-missing, second-missing, both-made, within-is}
@@ -103,9 +103,9 @@ pub current-read : (v : Value) (z : ℤ) → v ≡ Is z → Within mostCurrent v
 current-read v z p h = small (back (exactly z (within-is mostCurrent v z p h)) tt)
 
 -- U less the drop
-module _ (u : Value) (x r : ℤ) (p : u ≡ Is x) (h : Within highest u) (l : natAbs r ≤ 2 ^ 60) where
-  less : Stands (read x -ℤ read r) (x -ℤ r) (highest + 2 ^ 60)
-  less = sub (back (exactly x (within-is highest u x p h)) tt) (back (exactly r l) tt)
+module _ (u : Value) (x r : ℤ) (p : u ≡ Is x) (h : Within mostReading u) (l : natAbs r ≤ 2 ^ 60) where
+  less : Stands (read x -ℤ read r) (x -ℤ r) (mostReading + 2 ^ 60)
+  less = sub (back (exactly x (within-is mostReading u x p h)) tt) (back (exactly r l) tt)
 
   pub less-fits : SFits w64 (read x -ℤ read r)
   less-fits = fits less tt
@@ -120,7 +120,7 @@ module _ (s : List ℕ) (u v : Value) (x : ℤ) (p : u ≡ Is x) where
     unfolding voltageDrop
     less-unrated n = second-missing Missing _-ℤ_ u (voltageDrop s v) x p (rw q (sym (no-told Missing _ _ t (isRated s) e n refl))) refl
 
-    pub less-made : (r : ℤ) (k : ℕ) → Within highest u → Within mostCurrent v → t ≡ true → k ≡ moduleFactor s
+    pub less-made : (r : ℤ) (k : ℕ) → Within mostReading u → Within mostCurrent v → t ≡ true → k ≡ moduleFactor s
         → r ≡ dropOf (slot s uComp) (read y) k (slot s ctRating) (slot s breakerRating) → natAbs r ≤ 2 ^ 60 → Is (read (read x -ℤ read r)) ≡ differenceOf u (voltageDrop s v)
     unfolding voltageDrop
     less-made r k h w n f g l =

@@ -10,7 +10,7 @@ use Rattle.slots.specs.Slots.{slots, moduleKind, compensation, compensationCurr
 use Rattle.measure.specs.declared.Measured.{Measured}
 use Rattle.measure.specs.declared.Measured.the-variants.{Good, Held}
 use Rattle.sheet.specs.Table.{moduleFactor}
-use Rattle.busbar_current.specs.Current.{goodOf, both, currentOf}
+use Rattle.busbar_current.specs.Current.{goodOf, both, pickedOf, currentOf}
 use Rattle.busbar_compensation.specs.Voltage.{dropOf, isRating, isRated, voltageDrop, voltageOf}
 use Rattle.busbar_current.specs.declared.Value.{Value}
 use Rattle.busbar_current.specs.declared.Value.the-variants.{Missing, Is}
@@ -70,5 +70,5 @@ found (ratedStar comp kind ct breaker i z) = voltageDrop (ratedSheet comp kind c
 found (voltageStar comp kind ab bus coupler u) = voltageOf (dropSheet comp kind) ab bus coupler
 
 pub stars-are : map found stars ≡ map expected stars
-unfolding choose goodOf both currentOf moduleFactor dropOf isRating isRated voltageDrop voltageOf
+unfolding choose goodOf both pickedOf currentOf moduleFactor dropOf isRating isRated voltageDrop voltageOf
 stars-are = refl

@@ -3,7 +3,7 @@ ghost use mathlib.Core.Path.{_≡_};
 ghost use mathlib.Core.Bool.{true};
 ghost use Prim.Native.Nat.{_≤_, _<_, _^_};
 ghost use lib.IntN.{natAbs};
-ghost use Rattle.busbar_current.specs.Current.{highest, mostCurrent, differenceOf, Within};
+ghost use Rattle.busbar_current.specs.Current.{mostReading, mostCurrent, differenceOf, Within};
 ghost use Rattle.busbar_compensation.specs.Voltage.{mostComp, dropOf, isRating, isRated, voltageDrop, voltageOf};
 use busbar_current::Value;
 use measure::Measured;
@@ -42,7 +42,7 @@ fn is_rated(s: &[u32; SLOTS]) -> bool
 
 // U less the drop by U_comp, missing if U or I is.
 fn less_drop(s: &[u32; SLOTS], u: Value, i: Value) -> Value
-    requires { ⌜ Within highest u × Within mostCurrent i ⌝ }
+    requires { ⌜ Within mostReading u × Within mostCurrent i ⌝ }
     ensures { λ r. ⌜ r ≡ differenceOf u (voltageDrop (now (s .entry)) i) ⌝ }
 {
     match u {

@@ -6,18 +6,18 @@ use Prim.Native.Nat.{ℕ, _+_, _<_, _≤_, _^_}
 use native.Mathlib.Nat.{le-trans}
 use native.Mathlib.Omega.{arith}
 use borrow.Author.Tests.{leb-true}
-use lib.Dec.{eqb, leb, lit≤}
-use lib.IntN.{ℤ, pos, natAbs, _+ℤ_, _-ℤ_}
+use lib.Dec.{leb, lit≤}
+use lib.IntN.{ℤ, pos, natAbs}
 use mir.Syntax.{w64}
 use mir.Val.{SFits, toZ}
 use Rattle.common.proofs.Cases.{cases, chosen}
-use Rattle.common.proofs.Signed.{natAbs-add, natAbs-sub, Stands, exactly, fits, read, back, cast, add, sub}
-use Rattle.slots.specs.Slots.{slot, compensationCurrent}
+use Rattle.common.proofs.Signed.{Stands, exactly, fits, read, back, cast}
 use Rattle.measure.specs.declared.Measured.{Measured}
 use Rattle.measure.specs.declared.Measured.the-variants as measured
-use Rattle.busbar_current.specs.Current.{highest, readingOf, goodOf, both, sumOf, differenceOf, currentOf, mostCurrent, Within}
+use Rattle.busbar_current.specs.Current.{mostReading, readingOf, goodOf, both, currentOf, mostCurrent, Within}
 use Rattle.busbar_current.specs.declared.Value.{Value}
 use Rattle.busbar_current.specs.declared.Value.the-variants.{Missing, Is}
+use Rattle.busbar_current.proofs.Picked.{Joins, joined, picked-has}
 
 -- ---- readings
 
@@ -59,32 +59,24 @@ pub within-is : (n : ℕ) (v : Value) (z : ℤ) → v ≡ Is z → Within n v �
 unfolding Within
 within-is n v z p h = rw p at h
 
-module _ (a b : Value) (x y : ℤ) (p : a ≡ Is x) (q : b ≡ Is y) (h : Within highest a) (k : Within highest b) where
-  first : Stands (read x) x highest
-  first = back (exactly x (within-is highest a x p h)) tt
+-- a sum or a difference
+module _ (f : ℤ → ℤ → ℤ) (l : Joins f) (a b : Value) (x y : ℤ) (p : a ≡ Is x) (q : b ≡ Is y) (h : Within mostReading a) (k : Within mostReading b) where
+  result : Stands (f (read x) (read y)) (f x y) (mostReading + mostReading)
+  result = joined f l (back (exactly x (within-is mostReading a x p h)) tt) (back (exactly y (within-is mostReading b y q k)) tt)
 
-  second : Stands (read y) y highest
-  second = back (exactly y (within-is highest b y q k)) tt
+  pub both-fits : SFits w64 (f (read x) (read y))
+  both-fits = fits result tt
 
-  pub sum-fits : SFits w64 (read x +ℤ read y)
-  sum-fits = fits (add first second) tt
+  pub both-is : Is (read (f (read x) (read y))) ≡ both f a b
+  both-is = both-made _ f a b x y p q (ap Is (back result tt .is))
 
-  pub sum-made : Is (read (read x +ℤ read y)) ≡ sumOf a b
-  sum-made = both-made _ _+ℤ_ a b x y p q (ap Is (back (add first second) tt .is))
-
-  pub difference-fits : SFits w64 (read x -ℤ read y)
-  difference-fits = fits (sub first second) tt
-
-  pub difference-made : Is (read (read x -ℤ read y)) ≡ differenceOf a b
-  difference-made = both-made _ _-ℤ_ a b x y p q (ap Is (back (sub first second) tt .is))
-
-good-le : (m : Measured) → Within highest (goodOf m)
+good-le : (m : Measured) → Within mostReading (goodOf m)
 unfolding goodOf Within
-good-le (measured.Good n) = chosen (Within highest) (leb n highest) (Is (pos n)) Missing (λ p. leb-true n highest p) (λ p. tt)
+good-le (measured.Good n) = chosen (Within mostReading) (leb n mostReading) (Is (pos n)) Missing (λ p. leb-true n mostReading p) (λ p. tt)
 good-le (measured.Held n) = tt
 good-le measured.Missing = tt
 
-pub good-within : (r : Value) (m : Measured) → r ≡ goodOf m → Within highest r
+pub good-within : (r : Value) (m : Measured) → r ≡ goodOf m → Within mostReading r
 good-within r m e = rw e (good-le m)
 
 more : (n m : ℕ) (v : Value) → n ≤ m → Within n v → Within m v
@@ -92,7 +84,7 @@ unfolding Within
 more n m Missing l h = tt
 more n m (Is z) l h = le-trans h l
 
-both-le : (f : ℤ → ℤ → ℤ) → ((x y : ℤ) → natAbs (f x y) ≤ natAbs x + natAbs y) → (n : ℕ) (a b : Value) → Within n a → Within n b → Within (n + n) (both f a b)
+both-le : (f : ℤ → ℤ → ℤ) → Joins f → (n : ℕ) (a b : Value) → Within n a → Within n b → Within (n + n) (both f a b)
 unfolding both Within
 both-le f l n Missing b h k = tt
 both-le f l n (Is x) Missing h k = tt
@@ -105,10 +97,8 @@ current-within r s bus coupler e =
     let b = good-le bus in
     let c = good-le coupler in
     rw e
-    (chosen (Within mostCurrent) (eqb (slot s compensationCurrent) 0) _ _ (λ p. more highest mostCurrent _ (lit≤ tt) b)
-    (λ p. chosen (Within mostCurrent) (eqb (slot s compensationCurrent) 1) _ _ (λ q. more highest mostCurrent _ (lit≤ tt) c)
-    (λ q. chosen (Within mostCurrent) (eqb (slot s compensationCurrent) 2) _ _ (λ o. both-le _-ℤ_ natAbs-sub highest _ _ b c)
-    (λ o. both-le _+ℤ_ natAbs-add highest _ _ b c))))
+    (picked-has both s (Within mostCurrent) _ _ (more mostReading mostCurrent _ (lit≤ tt) b) (more mostReading mostCurrent _ (lit≤ tt) c)
+    (λ f l. both-le f l mostReading _ _ b c))
 
 -- readings and what is computed of them
 pub ruleset values = (
@@ -119,10 +109,6 @@ pub ruleset values = (
   first-missing,
   second-missing,
   both-of,
-  sum-fits,
-  sum-made,
-  difference-fits,
-  difference-made,
   good-within,
   current-within,
   cases,

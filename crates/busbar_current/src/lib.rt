@@ -1,6 +1,6 @@
 // What rule 6 takes of readings: the number of a Good one, and the current of the compensation.
 ghost use mathlib.Core.Path.{_≡_};
-ghost use Rattle.busbar_current.specs.Current.{highest, readingOf, goodOf, sumOf, differenceOf, currentOf, Within};
+ghost use Rattle.busbar_current.specs.Current.{mostReading, readingOf, goodOf, sumOf, differenceOf, currentOf, Within};
 use measure::Measured;
 use slots::COMPENSATION_CURRENT;
 use slots::SLOTS;
@@ -12,13 +12,13 @@ pub enum Value {
 }
 
 // 200 V, or 200 A of a 5 A module: no reading is above it.
-const HIGHEST: u32 = 200_000;
+const MOST_READING: u32 = 200_000;
 
 // A reading's number. One above what a reading can be is missing.
 fn reading(n: u32) -> Value
     ensures { λ r. ⌜ r ≡ readingOf n ⌝ }
 {
-    if n <= HIGHEST {
+    if n <= MOST_READING {
         Value::Is(n as i64)
     } else {
         Value::Missing
@@ -38,7 +38,7 @@ pub fn good(m: Measured) -> Value
 
 // The sum of two numbers, missing if either is.
 fn sum(a: Value, b: Value) -> Value
-    requires { ⌜ Within highest a × Within highest b ⌝ }
+    requires { ⌜ Within mostReading a × Within mostReading b ⌝ }
     ensures { λ r. ⌜ r ≡ sumOf a b ⌝ }
 {
     match a {
@@ -52,7 +52,7 @@ fn sum(a: Value, b: Value) -> Value
 
 // The difference of two numbers, missing if either is.
 fn difference(a: Value, b: Value) -> Value
-    requires { ⌜ Within highest a × Within highest b ⌝ }
+    requires { ⌜ Within mostReading a × Within mostReading b ⌝ }
     ensures { λ r. ⌜ r ≡ differenceOf a b ⌝ }
 {
     match a {

@@ -18,9 +18,9 @@ use Rattle.common.proofs.Signed.{Stands, exactly, literal, small, fits, read, b
 use Rattle.phasor.specs.declared.Vector.{Vector}
 use Rattle.phasor.specs.declared.Vector.the-variants.{Is}
 use Rattle.phasor.specs.Pairs.{Within}
-use Rattle.line.specs.Along.{mostPart}
-use Rattle.line.proofs.Parts.{within-re, read-most}
-use Rattle.line.proofs.Made.{pair-within}
+use Rattle.busbar_current.specs.Current.{mostReading}
+use Rattle.line_current.proofs.Parts.{within-re, pair-within}
+use Rattle.line.proofs.Parts.{read-most}
 
 -- ---- a number that is not below 0, as it stands
 
@@ -45,8 +45,8 @@ turned : (z : ℤ) → ltZ z (pos 0) ≡ true → T (nonNeg (pos 0 -ℤ z))
 turned (pos n) e = absurd (let h : n < 0 = ltb-true n 0 e in omega arith)
 turned (negsuc n) e = tt
 
-module _ (z : ℤ) (h : natAbs z ≤ mostPart) where
-  less : Stands (pos 0 -ℤ read z) (pos 0 -ℤ z) mostPart
+module _ (z : ℤ) (h : natAbs z ≤ mostReading) where
+  less : Stands (pos 0 -ℤ read z) (pos 0 -ℤ z) mostReading
   less = sub (literal 0) (back (exactly z h) tt)
 
   pub turned-fits : SFits w64 (pos 0 -ℤ read z)
@@ -56,7 +56,7 @@ module _ (z : ℤ) (h : natAbs z ≤ mostPart) where
   turned-nonneg e = rw (back less tt .is) (turned z (rw (back (exactly z h) tt .is) at e))
 
   pub turned-word : Fits w64 (natAbs (read (pos 0 -ℤ read z)))
-  turned-word = fits-le {n = mostPart} (small (back less tt)) (fits-lit tt)
+  turned-word = fits-le {n = mostReading} (small (back less tt)) (fits-lit tt)
 
   pub turned-few : natAbs (read (pos 0 -ℤ read z)) < 1099511627776
   turned-few = lt-of-le-of-lt (small (back less tt)) (lit< tt)
@@ -91,8 +91,8 @@ module _ (z : ℤ) (f : SFits w64 z) (e : ltZ (read z) (pos 0) ≡ true) where
 
 -- ---- parts, and floats of whole numbers
 
-pub part-most : (v : Vector) (re im : ℤ) → v ≡ Is re im → Within mostPart v → natAbs (read re) ≤ mostPart
-part-most v re im is h = read-most mostPart re (lit≤ tt) (within-re mostPart v re im is h)
+pub part-most : (v : Vector) (re im : ℤ) → v ≡ Is re im → Within mostReading v → natAbs (read re) ≤ mostReading
+part-most v re im is h = read-most mostReading re (lit≤ tt) (within-re mostReading v re im is h)
 
 pub exact : (n : ℕ) → n < 16777216 → T (inFloat binary32 (pos n))
 unfolding inFloat

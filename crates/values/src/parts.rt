@@ -9,7 +9,7 @@ use phasor::Vector;
 ghost use Prim.Native.Nat.{_<_, _≤_};
 ghost use lib.IntN.{natAbs};
 ghost use Rattle.phasor.specs.Pairs.{Within};
-ghost use Rattle.line.specs.Along.{mostPart};
+ghost use Rattle.busbar_current.specs.Current.{mostReading};
 
 // -100.1, both limits and the floats next to them, -0.0, the smallest floats on both sides of 0, the floats on the two sides of
 // minus half a thousandth and the one above half a thousandth, halves of a thousandth on both sides of 0 and the float above
@@ -51,7 +51,7 @@ const CURRENTS: [u32; 6] = [
 
 // The pair of the pattern's float and 0.
 fn pair(c: Channel, bits: u32) -> Vector
-    ensures { λ v. ⌜ Within mostPart v ⌝ }
+    ensures { λ v. ⌜ Within mostReading v ⌝ }
 {
     let x = readings::float(bits);
     let zero: f32 = 0.0;
@@ -62,7 +62,7 @@ fn pair(c: Channel, bits: u32) -> Vector
 }
 
 fn magnitude(z: i64) -> u64
-    requires { ⌜ natAbs z ≤ mostPart ⌝ }
+    requires { ⌜ natAbs z ≤ mostReading ⌝ }
     ensures { λ r. ⌜ r < 1099511627776 ⌝ }
 {
     if z < 0 {
@@ -72,7 +72,7 @@ fn magnitude(z: i64) -> u64
 }
 
 fn print_part(z: i64)
-    requires { ⌜ natAbs z ≤ mostPart ⌝ }
+    requires { ⌜ natAbs z ≤ mostReading ⌝ }
 {
     if z < 0 {
         print::text(b"-");
@@ -81,7 +81,7 @@ fn print_part(z: i64)
 }
 
 fn print_answer(v: Vector)
-    requires { ⌜ Within mostPart v ⌝ }
+    requires { ⌜ Within mostReading v ⌝ }
 {
     match v {
         Vector::Missing => print::text(b"missing\n"),
@@ -113,14 +113,14 @@ pub(crate) fn print_listed() {
 
 // What a part adds to the checksum: one below 0 half a million more.
 fn weight_of(z: i64) -> u64
-    requires { ⌜ natAbs z ≤ mostPart ⌝ }
+    requires { ⌜ natAbs z ≤ mostReading ⌝ }
 {
     let n = magnitude(z);
     if z < 0 { 500_000 + n } else { 2 + n }
 }
 
 fn weight(v: Vector) -> u64
-    requires { ⌜ Within mostPart v ⌝ }
+    requires { ⌜ Within mostReading v ⌝ }
 {
     match v {
         Vector::Missing => 1,

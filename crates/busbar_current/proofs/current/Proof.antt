@@ -1,5 +1,5 @@
 use Rattle.busbar_current.proofs.Values.{values}
-use Rattle.busbar_current.specs.Current.{currentOf}
+use Rattle.busbar_current.specs.Current.{currentOf, pickedOf}
 use borrow.Author.Needs.{needs}
 use Rattle.busbar_current.proofs.current.Statement.{statement}
 use Rattle.busbar_current.proofs.current.Tie as tie
@@ -14,14 +14,14 @@ element-copy-out-if1 : tie.Need-element-copy-out-if1
 element-copy-out-if1 c = search needs
 
 returns : tie.Need-returns
-unfolding currentOf
+unfolding currentOf pickedOf
 returns c = search values
 
 element-copy-out-if2 : tie.Need-element-copy-out-if2
 element-copy-out-if2 c = search needs
 
 returns-2 : tie.Need-returns-2
-unfolding currentOf
+unfolding currentOf pickedOf
 returns-2 c = search values
 
 element-copy-out-if3 : tie.Need-element-copy-out-if3
@@ -34,11 +34,11 @@ sum-requires : tie.Need-sum-requires
 sum-requires c κs = search values
 
 returns-3 : tie.Need-returns-3
-unfolding currentOf
+unfolding currentOf pickedOf
 returns-3 c = search values
 
 returns-4 : tie.Need-returns-4
-unfolding currentOf
+unfolding currentOf pickedOf
 returns-4 c = search values
 
 pub current-spec : {M : Type 1} → statement M

@@ -1,8 +1,8 @@
 use Rattle.common.proofs.Cases.{cases}
-use Rattle.line.specs.Along.{pickedOf}
+use Rattle.busbar_current.specs.Current.{pickedOf}
 use borrow.Author.Needs.{needs}
-use Rattle.line.proofs.current.Statement.{statement}
-use Rattle.line.proofs.current.Tie as tie
+use Rattle.line_current.proofs.picked.Statement.{statement}
+use Rattle.line_current.proofs.picked.Tie as tie
 
 element-copy-out-if1 : tie.Need-element-copy-out-if1
 element-copy-out-if1 c = search needs
@@ -35,8 +35,8 @@ returns-4 : tie.Need-returns-4
 unfolding pickedOf
 returns-4 c = search cases
 
-pub current-spec : {M : Type 1} → statement M
-current-spec =
+pub picked-spec : {M : Type 1} → statement M
+picked-spec =
     tie.close
     (tie.spec
     element-copy-out-if1

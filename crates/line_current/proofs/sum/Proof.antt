@@ -1,7 +1,9 @@
-use Rattle.line.proofs.Parts.{pairs}
+use lib.IntN.{_+ℤ_}
+use Rattle.common.proofs.Signed.{natAbs-add}
+use Rattle.line_current.proofs.Parts.{re-fits, im-fits, parts-are, pairs}
 use borrow.Author.Needs.{needs}
-use Rattle.line.proofs.sum.Statement.{statement}
-use Rattle.line.proofs.sum.Tie as tie
+use Rattle.line_current.proofs.sum.Statement.{statement}
+use Rattle.line_current.proofs.sum.Tie as tie
 
 enum-told : tie.Need-enum-told
 enum-told c = search needs
@@ -16,10 +18,10 @@ enum-known-b : tie.Need-enum-known-b
 enum-known-b c = search needs
 
 add-t9 : tie.Need-add-t9
-add-t9 c = search pairs
+add-t9 c = search (re-fits _+ℤ_ natAbs-add, pairs)
 
 add-t10 : tie.Need-add-t10
-add-t10 c = search pairs
+add-t10 c = search (im-fits _+ℤ_ natAbs-add, pairs)
 
 returns : tie.Need-returns
 returns c = search pairs
@@ -28,7 +30,7 @@ returns-2 : tie.Need-returns-2
 returns-2 c = search pairs
 
 returns-3 : tie.Need-returns-3
-returns-3 c = search pairs
+returns-3 c = search (parts-are _+ℤ_ natAbs-add, pairs)
 
 pub sum-spec : {M : Type 1} → statement M
 sum-spec =
