@@ -8,16 +8,17 @@ use native.Mathlib.Nat.{le-trans, mul-le-mul, mul-pos}
 use native.Mathlib.Omega.{arith}
 use borrow.Author.Needs.{needs}
 use borrow.Author.Tests.{leb-true}
-use lib.Dec.{eqb, leb, lit<, lit≤}
+use lib.Dec.{leb, lit≤}
 use lib.IntN.{ℤ, pos, natAbs, _-ℤ_, _*ℤ_}
 use lib.Signed.{quotZ}
 use mir.Syntax.{w64}
 use mir.Val.{SFits, toZ}
-use Rattle.common.proofs.Cases.{chosen, yes-told, no-told}
+use Rattle.common.proofs.Cases.{yes-told, no-told}
 use Rattle.common.proofs.Joined.{and-left, and-right}
 use Rattle.common.proofs.Signed.{Stands, exactly, small, fits, read, back, cast, cast-to, sub, mul, quot}
-use Rattle.slots.specs.Slots.{slot, uComp, moduleKind, ctRating, breakerRating}
-use Rattle.sheet.specs.Table.{moduleFactor}
+use Rattle.slots.specs.Slots.{slot, uComp, ctRating, breakerRating}
+use Rattle.sheet_ranges.specs.Table.{moduleFactor}
+use Rattle.sheet_ranges.proofs.Tables.{factor-ge, factor-le}
 use Rattle.busbar_current.specs.Current.{mostReading, mostCurrent, differenceOf, Within}
 use Rattle.busbar_current.specs.declared.Value.{Value}
 use Rattle.busbar_current.specs.declared.Value.the-variants.{Missing, Is}
@@ -91,14 +92,6 @@ module _ (s : List ℕ) (t : Bool) (e : t ≡ isRated s) (p : t ≡ true) where
   pub breaker-rated : isRating (slot s breakerRating) ≡ true
   breaker-rated = and-right (isRating (slot s ctRating)) _ ratings
 
-pub factor-positive : (r : ℕ) (s : List ℕ) → r ≡ moduleFactor s → 0 < r
-unfolding moduleFactor
-factor-positive r s e = rw e (chosen (λ (n : ℕ). 0 < n) (eqb (slot s moduleKind) 1) 5 1 (λ p. lit< tt) (λ p. lit< tt))
-
-pub factor-le : (r : ℕ) (s : List ℕ) → r ≡ moduleFactor s → r ≤ 5
-unfolding moduleFactor
-factor-le r s e = rw e (chosen (λ (n : ℕ). n ≤ 5) (eqb (slot s moduleKind) 1) 5 1 (λ p. lit≤ tt) (λ p. lit≤ tt))
-
 pub current-read : (v : Value) (z : ℤ) → v ≡ Is z → Within mostCurrent v → natAbs (read z) ≤ mostCurrent
 current-read v z p h = small (back (exactly z (within-is mostCurrent v z p h)) tt)
 
@@ -140,7 +133,7 @@ pub ruleset drops = (
   quotient-fits,
   drop-is,
   drop-small,
-  factor-positive,
+  factor-ge,
   factor-le,
   current-read,
   comp-le,

@@ -10,12 +10,13 @@ use Rattle.common.proofs.Cases.{yes}
 use Rattle.common.proofs.Joined.{and-both}
 use Rattle.common.proofs.Signed.{quot-cancel}
 use Rattle.slots.specs.Slots.{slot, uComp, ctRating, breakerRating}
-use Rattle.sheet.specs.Table.{moduleFactor}
+use Rattle.sheet_ranges.specs.Table.{moduleFactor}
+use Rattle.sheet_ranges.proofs.Tables.{factor-ge}
 use Rattle.sheet.specs.Sheet.{passesOf}
 use Rattle.sheet.proofs.Laws.{uComp-range, ct-range, breaker-range}
 use Rattle.busbar_compensation.specs.Voltage.{dropOf, moduleDrop, isRating, isRated, voltageDrop}
 use Rattle.busbar_current.specs.declared.Value.the-variants.{Is}
-use Rattle.busbar_compensation.proofs.Drops.{factor-positive, divisor-positive, breaker-rated}
+use Rattle.busbar_compensation.proofs.Drops.{divisor-positive, breaker-rated}
 
 -- "01's case stands for equal ratings"
 pub equal-ratings : (comp : ℕ) (i : ℤ) (k n : ℕ) → 0 < n → dropOf comp i k n n ≡ moduleDrop comp i k
@@ -33,7 +34,7 @@ module _ (s : List ℕ) (e : passesOf s ≡ true) where
 
   -- the divisor is never 0
   pub taken-divisor : 0 < 1000 * moduleFactor s * slot s breakerRating
-  taken-divisor = divisor-positive (moduleFactor s) (slot s breakerRating) (breaker-rated s true (sym taken-rated) refl) (factor-positive (moduleFactor s) s refl)
+  taken-divisor = divisor-positive (moduleFactor s) (slot s breakerRating) (breaker-rated s true (sym taken-rated) refl) (factor-ge s refl)
 
   module _ (i : ℤ) where
     -- so the drop is there, and the paper's

@@ -9,7 +9,7 @@ use Rattle.common.specs.Choice.{choose}
 use Rattle.slots.specs.Slots.{slots, moduleKind, compensation, compensationCurrent, uComp, ctRating, breakerRating}
 use Rattle.measure.specs.declared.Measured.{Measured}
 use Rattle.measure.specs.declared.Measured.the-variants.{Good, Held}
-use Rattle.sheet.specs.Table.{moduleFactor}
+use Rattle.sheet_ranges.specs.Table.{moduleFactor}
 use Rattle.busbar_current.specs.Current.{goodOf, both, pickedOf, currentOf}
 use Rattle.busbar_compensation.specs.Voltage.{dropOf, isRating, isRated, voltageDrop, voltageOf}
 use Rattle.busbar_current.specs.declared.Value.{Value}

@@ -8,7 +8,7 @@ use lib.Signed.{quotZ}
 use Rattle.common.specs.Choice.{choose}
 use Rattle.slots.specs.Slots.{slot, compensation, uComp, ctRating, breakerRating}
 use Rattle.measure.specs.declared.Measured.{Measured}
-use Rattle.sheet.specs.Table.{moduleFactor}
+use Rattle.sheet_ranges.specs.Table.{moduleFactor}
 use Rattle.busbar_current.specs.declared.Value.{Value}
 use Rattle.busbar_current.specs.declared.Value.the-variants.{Missing, Is}
 use Rattle.busbar_current.specs.Current.{goodOf, differenceOf, currentOf}

@@ -53,7 +53,9 @@ fn less_drop(s: &[u32; SLOTS], u: Value, i: Value) -> Value
                 if is_rated(s) {
                     let ct = s[CT_RATING];
                     let breaker = s[BREAKER_RATING];
-                    Value::Is(x - drop_at(s[U_COMP], y, sheet::module_factor(s), ct, breaker))
+                    Value::Is(
+                        x - drop_at(s[U_COMP], y, sheet_ranges::module_factor(s), ct, breaker),
+                    )
                 } else {
                     Value::Missing
                 }

@@ -13,7 +13,7 @@ use Rattle.common.specs.Choice.{choose}
 use Rattle.common.proofs.Cases.{yes, no, chosen}
 use Rattle.slots.specs.Slots.{slot, inService, t7}
 use Rattle.sheet.specs.Sheet.{passesOf}
-use Rattle.sheet.specs.Table.{rowOf, rowIn}
+use Rattle.sheet_ranges.specs.Table.{rowOf, rowIn}
 use Rattle.common.proofs.Joined.{split, and-left, and-right, or-left, or-right}
 use Rattle.sheet.proofs.Laws.{in-run, t1-range, t2-range, t3-range}
 use Rattle.ways.specs.declared.Direction.{Direction}

@@ -10,13 +10,14 @@ use lib.Dec.{leb, ltb}
 use borrow.Author.Tests.{leb-true, ltb-true}
 use Rattle.common.specs.Choice.{choose}
 use Rattle.slots.specs.Slots.{slot, resistance, reactance, ctRating, breakerRating, t1, t2, t3, t4, t5, t6, t7, t8, organDelays, organLimits, uSupp, dU, uComp, uSet5, nPos, nR, nL, nStart, nMax, slidingTaps, slots}
-use Rattle.sheet.specs.Table.{Row, rowOf, rowIn, moduleFactor, factorOf, lowOf, highOf, takenOf, takenBy}
-use Rattle.sheet.specs.Sheet.{isTaken, takenIn, judgeOf, passesOf, answerOf}
+use Rattle.sheet_ranges.specs.Table.{Row, rowOf, rowIn, moduleFactor, factorOf, lowOf, highOf, takenOf, takenBy}
+use Rattle.sheet_ranges.specs.Ranges.{takenIn}
+use Rattle.sheet.specs.Sheet.{isTaken, judgeOf, passesOf, answerOf}
 use Rattle.sheet.specs.declared.Answer.{Answer}
 use Rattle.sheet.specs.declared.Answer.the-variants.{Taken, WrongLength, OutOfRange, TapOrder, CountedTap}
 use Rattle.common.proofs.Joined.{and-left, and-right}
-use Rattle.sheet.proofs.Every.{allBelow, every}
-use Rattle.sheet.proofs.Tables.{with-module}
+use Rattle.sheet_ranges.proofs.Every.{allBelow, every}
+use Rattle.sheet_ranges.proofs.Tables.{with-module}
 use Rattle.sheet.proofs.Exact.{Kept, judged-kept, exact}
 use Rattle.sheet.proofs.Answers.{answer-right}
 

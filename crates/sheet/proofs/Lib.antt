@@ -1,6 +1,3 @@
-pub mod Every
-pub mod Tables
-pub mod First
 pub mod Copies
 pub mod Answers
 pub mod Exact

@@ -3,7 +3,7 @@ use Prim.Native.Nat.{ℕ, zero, suc, _*_, _/_, _≤_}
 use mathlib.Core.List.{List, [], _∷_}
 use lib.ListN.{getD, set}
 use Rattle.slots.specs.Slots.{slots, iSet1, iSet2, iSet3, resistance, reactance}
-use Rattle.sheet.specs.Table.{Row, rowOf}
+use Rattle.sheet_ranges.specs.Table.{Row, rowOf}
 
 -- a part of the row of each of the n slots from i, and of all
 abbrev pub columnFrom : (Row → ℕ) → ℕ → ℕ → List ℕ

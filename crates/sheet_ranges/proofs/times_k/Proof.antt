@@ -1,10 +1,10 @@
 -- `sheet::times_k` meets its contract.
 -- Assumes nothing.
 use borrow.Author.Needs.{needs}
-use Rattle.sheet.specs.Columns.{timesK}
-use Rattle.sheet.proofs.Tables.{times-fits, inverse-fits}
-use Rattle.sheet.proofs.times_k.Statement.{statement}
-use Rattle.sheet.proofs.times_k.Tie as tie
+use Rattle.sheet_ranges.specs.Columns.{timesK}
+use Rattle.sheet_ranges.proofs.Tables.{times-fits, inverse-fits}
+use Rattle.sheet_ranges.proofs.times_k.Statement.{statement}
+use Rattle.sheet_ranges.proofs.times_k.Tie as tie
 
 div-inverse : tie.Need-div-inverse
 div-inverse c = search needs

@@ -16,9 +16,9 @@ use mir.Facts.{fits-le, fits-lit}
 use Rattle.slots.specs.Slots.{slots}
 use Rattle.common.specs.Choice.{choose}
 use Rattle.common.proofs.Cases.{chosen}
-use Rattle.sheet.specs.Table.{rowOf, rowIn, moduleFactor, factorOf, lowOf, highOf, stepOf}
-use Rattle.sheet.specs.Columns.{lowColumn, highColumn, stepColumn, timesK}
-use Rattle.sheet.proofs.Every.{every}
+use Rattle.sheet_ranges.specs.Table.{rowOf, rowIn, moduleFactor, factorOf, lowOf, highOf, stepOf}
+use Rattle.sheet_ranges.specs.Columns.{lowColumn, highColumn, stepColumn, timesK}
+use Rattle.sheet_ranges.proofs.Every.{every}
 
 -- k is 1 or 5: what holds with both holds with the sheet's
 module _ (P : ℕ → Type 0) (one : P 1) (five : P 5) (s : List ℕ) where

@@ -1,9 +1,9 @@
 -- `sheet::in_range` meets its contract.
 -- Assumes nothing.
 use borrow.Author.Needs.{needs}
-use Rattle.sheet.proofs.Answers.{too-low, too-high, by-one, by-hundred}
-use Rattle.sheet.proofs.in_range.Statement.{statement}
-use Rattle.sheet.proofs.in_range.Tie as tie
+use Rattle.sheet_ranges.proofs.Numbers.{too-low, too-high, by-one, by-hundred}
+use Rattle.sheet_ranges.proofs.in_range.Statement.{statement}
+use Rattle.sheet_ranges.proofs.in_range.Tie as tie
 
 returns : tie.Need-returns
 returns c = search (needs, too-low)

@@ -9,9 +9,9 @@ use native.Mathlib.Omega.{arith}
 use lib.ListN.{getD}
 use Rattle.slots.specs.Slots.{slots}
 use Rattle.common.proofs.Cases.{yes, no}
-use Rattle.sheet.specs.Sheet.{firstFrom, takenIn, firstOutOfRange}
-use Rattle.sheet.specs.Table.{takenBy, takenOf}
-use Rattle.sheet.proofs.Tables.{Columns}
+use Rattle.sheet_ranges.specs.Ranges.{firstFrom, takenIn, firstOutOfRange}
+use Rattle.sheet_ranges.specs.Table.{takenBy, takenOf}
+use Rattle.sheet_ranges.proofs.Tables.{Columns}
 
 -- the lowest slot out of range is the lowest from i on
 abbrev pub From : List ℕ → ℕ → Type 0

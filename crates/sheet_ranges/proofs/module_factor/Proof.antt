@@ -2,9 +2,9 @@
 -- Assumes nothing.
 use borrow.Author.Needs.{needs}
 use Rattle.common.proofs.Cases.{cases}
-use Rattle.sheet.specs.Table.{moduleFactor}
-use Rattle.sheet.proofs.module_factor.Statement.{statement}
-use Rattle.sheet.proofs.module_factor.Tie as tie
+use Rattle.sheet_ranges.specs.Table.{moduleFactor}
+use Rattle.sheet_ranges.proofs.module_factor.Statement.{statement}
+use Rattle.sheet_ranges.proofs.module_factor.Tie as tie
 
 element-copy-out-if1 : tie.Need-element-copy-out-if1
 element-copy-out-if1 c = search needs

@@ -7,12 +7,12 @@ use borrow.Author.Needs.{needs}
 use borrow.Author.Tests.{not-true, not-false}
 use Rattle.slots.specs.Slots.{slots}
 use Rattle.common.specs.Choice.{choose}
-use Rattle.sheet.specs.Table.{rowOf, rowIn}
-use Rattle.sheet.specs.Columns.{lowColumn, highColumn, stepColumn}
-use Rattle.sheet.proofs.Tables.{factor-ge, factor-le, Columns, columns, step-kind}
-use Rattle.sheet.proofs.First.{From, from-start, first-on, first-here, first-past}
-use Rattle.sheet.proofs.first_out_of_range.Statement.{statement}
-use Rattle.sheet.proofs.first_out_of_range.Tie as tie
+use Rattle.sheet_ranges.specs.Table.{rowOf, rowIn}
+use Rattle.sheet_ranges.specs.Columns.{lowColumn, highColumn, stepColumn}
+use Rattle.sheet_ranges.proofs.Tables.{factor-ge, factor-le, Columns, columns, step-kind}
+use Rattle.sheet_ranges.proofs.First.{From, from-start, first-on, first-here, first-past}
+use Rattle.sheet_ranges.proofs.first_out_of_range.Statement.{statement}
+use Rattle.sheet_ranges.proofs.first_out_of_range.Tie as tie
 
 abbrev Inv-loop : tie.InvT-loop
 Inv-loop s k lows highs steps i₀ i =
