@@ -7,7 +7,7 @@ use Rattle.common.specs.Choice.{choose}
 use Rattle.slots.specs.Slots.{slot, wearCount}
 use Rattle.ways.specs.declared.Way.{Way}
 use Rattle.ways.specs.Ways.{newerOf}
-use Rattle.tap.specs.Counted.{countedOf}
+use Rattle.tap_counted.specs.Counted.{countedOf}
 use Rattle.acting_accounting.specs.declared.Accounted.{Accounted}
 
 -- "adds 1 to operations if slot 17 (held at 999,999)"

@@ -42,7 +42,7 @@ pub fn account(
 {
     let latest = ways::newer(ended, last);
     let n = count_operation(s, operations, operation);
-    let counted = tap::counted::count_move(s, tap, ended);
+    let counted = tap_counted::count_move(s, tap, ended);
     Accounted {
         last: latest,
         operations: n,

@@ -13,7 +13,7 @@ use Rattle.drive_follow.specs.Follow.{followOf}
 use Rattle.drive_hold.specs.declared.Holding.{Holding}
 use Rattle.drive_hold.specs.Hold.{holdOf}
 use Rattle.fault.specs.Latches.{isFault, resetOf, latchedOf}
-use Rattle.tap.specs.Sliding.{slidingOf}
+use Rattle.tap_sliding.specs.Sliding.{slidingOf}
 use Rattle.acting_judging.specs.declared.Finding.{Finding}
 use Rattle.acting_supervising.specs.declared.Supervised.{Supervised}
 use Rattle.busbar_level.specs.Levels.{sideOf, isInBand}

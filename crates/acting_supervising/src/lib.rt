@@ -31,7 +31,7 @@ fn contact_of(s: &[u32; SLOTS], c: Contacts, tap: u32, l: Latch, last: Way) -> C
 {
     let f = l.fault;
     let faulty = fault::is_fault(f);
-    let sliding = tap::sliding::is_sliding(s, tap);
+    let sliding = tap_sliding::is_sliding(s, tap);
     Contact {
         local: c.local_drive,
         closed: c.switching,

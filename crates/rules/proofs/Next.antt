@@ -18,7 +18,7 @@ use Rattle.ways.specs.declared.Way.the-variants.{Neither, To}
 use Rattle.drive_follow.specs.Follow.{restsOf}
 use Rattle.fault.specs.Latches.{isFault, latchedOf}
 use Rattle.fault.proofs.Kept.{latched-within}
-use Rattle.tap.proofs.Steps.{counted-kept}
+use Rattle.tap_counted.proofs.Steps.{counted-kept}
 use Rattle.input.specs.declared.Contacts.{Contacts}
 use Rattle.input.specs.declared.Input.{Input}
 use Rattle.input.specs.Brought.{contactsOf}

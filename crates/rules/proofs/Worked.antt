@@ -34,9 +34,9 @@ use Rattle.fault.specs.Latches as fault-latches
 use Rattle.drive_shown.specs.Shown as drive-shown
 use Rattle.ways.specs.Ways as ways-ways
 use Rattle.input.specs.Brought as input-brought
-use Rattle.tap.specs.Counted as tap-counted
-use Rattle.tap.specs.Positions as tap-positions
-use Rattle.tap.specs.Sliding as tap-sliding
+use Rattle.tap_counted.specs.Counted as tap-counted
+use Rattle.tap_position.specs.Positions as tap-positions
+use Rattle.tap_sliding.specs.Sliding as tap-sliding
 use Rattle.blocks.specs.Blocked as blocks-blocked
 use Rattle.busbar_deviation.specs.Deviation as busbar-deviation
 use Rattle.busbar_section.specs.Section as busbar-section

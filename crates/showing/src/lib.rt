@@ -11,7 +11,7 @@ use slots::SUPPLY_TRIP;
 use slots::T7;
 use slots::T8;
 use slots::WEAR_COUNT;
-use tap::position::Position;
+use tap_position::Position;
 
 // The number of output fields.
 pub const FIELDS: usize = 28;

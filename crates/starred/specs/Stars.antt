@@ -12,8 +12,8 @@ use Rattle.busbar_current.specs.declared.Value.{Value}
 use Rattle.busbar_compensation.specs.Stars as voltage-stars
 use Rattle.busbar_level.specs.declared.Level.{Level}
 use Rattle.busbar_deviation.specs.Stars as level-stars
-use Rattle.tap.specs.Stars as tap-stars
-use Rattle.tap.specs.declared.position.Position.{Position}
+use Rattle.tap_position.specs.Stars as tap-stars
+use Rattle.tap_position.specs.declared.Position.{Position}
 use Rattle.organ.specs.Stars as organ-stars
 use Rattle.organ.specs.Runs as organ-runs
 use Rattle.claim.specs.Claim.{Tick, output}
@@ -33,9 +33,9 @@ use Rattle.fault.specs.Latches as fault-latches
 use Rattle.drive_shown.specs.Shown as drive-shown
 use Rattle.ways.specs.Ways as ways-ways
 use Rattle.input.specs.Brought as input-brought
-use Rattle.tap.specs.Counted as tap-counted
-use Rattle.tap.specs.Positions as tap-positions
-use Rattle.tap.specs.Sliding as tap-sliding
+use Rattle.tap_counted.specs.Counted as tap-counted
+use Rattle.tap_position.specs.Positions as tap-positions
+use Rattle.tap_sliding.specs.Sliding as tap-sliding
 use Rattle.blocks.specs.Blocked as blocks-blocked
 use Rattle.busbar_deviation.specs.Deviation as busbar-deviation
 use Rattle.busbar_section.specs.Section as busbar-section

@@ -5,7 +5,7 @@ use slots::SLOTS;
 use slots::TAP_SOURCE;
 
 fn print_code(s: &[u32; SLOTS], lines: u8) {
-    let p = tap::position::read_position(s, lines, 0, 20);
+    let p = tap_position::read_position(s, lines, 0, 20);
     print::text(b"bcd ");
     print::number(lines as u64);
     print::text(b" ");
