@@ -111,12 +111,12 @@ pub fn measure_all(i: Input, five_ampere: bool) -> Readings
     let d = i.i_high;
     let e = i.i_bus;
     let f = i.i_coupler;
-    let u_ab = measure::measure(Channel::Voltage, a);
-    let u0 = measure::measure(Channel::Voltage, b);
-    let u2 = measure::measure(Channel::Voltage, c);
-    let i_high = measure::measure(current, d);
-    let i_bus = measure::measure(current, e);
-    let i_coupler = measure::measure(current, f);
+    let u_ab = measure_reading::measure(Channel::Voltage, a);
+    let u0 = measure_reading::measure(Channel::Voltage, b);
+    let u2 = measure_reading::measure(Channel::Voltage, c);
+    let i_high = measure_reading::measure(current, d);
+    let i_bus = measure_reading::measure(current, e);
+    let i_coupler = measure_reading::measure(current, f);
     Readings {
         u_ab: u_ab,
         u0: u0,

@@ -19,7 +19,7 @@ use lib.Ieee.Scale.{finite}
 use lib.Ieee.Positive.{num, den, den-pos}
 use Rattle.measure.specs.Exact.{counts, inRange, nearest, thousandths}
 use Rattle.measure.specs.Readings.{limitOf, ifInRange, convertedOf, goodOf, heldOf, measuredOf, AtMost}
-use Rattle.measure.specs.Fronts.{minusOf, exponentOf, numberFraction}
+use Rattle.measure.specs.Fields.{minusOf, exponentOf, numberFraction}
 use Rattle.measure.specs.declared.Measured.{Measured}
 use Rattle.measure.specs.declared.Channel.{Channel}
 use Rattle.measure.specs.declared.Channel.the-variants.{Voltage, Current1A, Current5A}

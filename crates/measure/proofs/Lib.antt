@@ -1,5 +1,2 @@
 pub mod Facts
-pub mod FirstStep
-pub mod Fronts
 pub mod Laws
-pub mod Qualities

@@ -1,7 +1,7 @@
 -- What a reading counts as (01, 'What a tick brings'). Definitions only.
 use Prim.Native.Nat.{ℕ, _≤_}
 use mathlib.Core.Bool.{Bool, true, false}
-use lib.Ieee.{Float}
+use lib.Ieee.{Float, binary32, ofBits}
 use Rattle.measure.specs.declared.Channel.{Channel}
 use Rattle.measure.specs.declared.Channel.the-variants.{Voltage, Current1A, Current5A}
 use Rattle.measure.specs.declared.Converted.{Converted}
@@ -39,6 +39,12 @@ unfoldable pub measuredOf : ℕ → Reading → Measured
 measuredOf limit (Good x) = goodOf (convertedOf limit x)
 measuredOf limit (Held x) = heldOf (convertedOf limit x)
 measuredOf limit Invalid = measured.Missing
+
+-- the number of a reading, and 0 of an Invalid one
+unfoldable pub numberOf : Reading → Float
+numberOf (Good x) = x
+numberOf (Held x) = x
+numberOf Invalid = ofBits binary32 0
 
 -- a measured number is not above n
 unfoldable pub AtMost : ℕ → Measured → Type 0

@@ -16,7 +16,7 @@ use Rattle.sheet.specs.declared.Sheet.{Sheet}
 use Rattle.sheet.specs.Settings.{Settings}
 use Rattle.sheet.specs.Sheet.{numberOf, isTaken, answerOf, sheetWith, sheetOf, passesOf, replyOf, returnedOf}
 use Rattle.sheet.proofs.Laws.{taken-pass, taps-range, nStart-most}
-use Rattle.organ.proofs.Within.{all-cleared-within}
+use Rattle.organ_limits.proofs.Within.{all-cleared-within}
 use Rattle.fault.specs.declared.Fault.the-variants.{NoFault}
 use Rattle.record.specs.declared.Regulator.{Regulator}
 use Rattle.record.specs.declared.starting.Started.{Started}

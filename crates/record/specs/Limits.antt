@@ -9,7 +9,7 @@ use Rattle.sheet.specs.Sheet.{passesOf}
 use Rattle.ways.specs.declared.Way.{Way}
 use Rattle.ways.specs.Ways.{raises, lowers}
 use Rattle.organ.specs.declared.Organ.{Organ}
-use Rattle.organ.specs.Limits.{organsWithin}
+use Rattle.organ_limits.specs.Limits.{organsWithin}
 use Rattle.drive.specs.declared.Drive.{Drive}
 use Rattle.fault.specs.declared.Fault.{Fault}
 use Rattle.fault.specs.declared.Latch.{Latch}

@@ -85,7 +85,7 @@ fn counts_within(s: &[u32; SLOTS], organs: [Organ; 7], tap: u32, operations: u32
     ensures { λ r. ⌜ r ≡ countsWithin (now (s .entry)) organs tap operations ⌝ }
 {
     let delays = organ_delays(s);
-    let marks = organ::organs_within(organs, delays);
+    let marks = organ_limits::organs_within(organs, delays);
     marks & (s[N_L] <= tap) & (tap <= s[N_R]) & (operations <= 999999)
 }
 

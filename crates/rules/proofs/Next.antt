@@ -11,8 +11,8 @@ use Rattle.slots.specs.Slots.{slot, inService, t4, nL, nR}
 use Rattle.sheet.specs.Sheet.{passesOf}
 use Rattle.common.proofs.Joined.{and-left, and-right, and-four}
 use Rattle.sheet.proofs.Laws.{t4-range}
-use Rattle.organ.specs.Limits.{organsWithin}
-use Rattle.organ.proofs.Within.{all-step-within}
+use Rattle.organ_limits.specs.Limits.{organsWithin}
+use Rattle.organ_limits.proofs.Within.{all-step-within}
 use Rattle.ways.specs.declared.Way.{Way}
 use Rattle.ways.specs.declared.Way.the-variants.{Neither, To}
 use Rattle.drive_follow.specs.Follow.{restsOf}

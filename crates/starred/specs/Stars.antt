@@ -25,7 +25,7 @@ use Rattle.measure.specs.Readings as measure-readings
 use Rattle.sheet_ranges.specs.Ranges as sheet-ranges
 use Rattle.sheet.specs.Sheet as sheet-sheet
 use Rattle.sheet_ranges.specs.Table as sheet-table
-use Rattle.organ.specs.Limits as organ-limits
+use Rattle.organ_limits.specs.Limits as organ-limits
 use Rattle.organ.specs.Organs as organ-organs
 use Rattle.drive_follow.specs.Follow as drive-follow
 use Rattle.drive_hold.specs.Hold as drive-hold

@@ -1,9 +1,8 @@
 // The first step of a reading's conversion, for every exponent: 1 where it lets a number pass, 0 where it is missing.
 use crate::print;
 use measure::Channel;
-use measure::front;
-use measure::front::Front;
-use measure::front::Quality;
+use measure_front::Front;
+use measure_front::Quality;
 
 fn print_answer(passes: bool) {
     if passes {
@@ -16,7 +15,7 @@ fn print_answer(passes: bool) {
 fn print_answers(c: Channel, quality: Quality, minus: bool) {
     let mut exponent: u32 = 0;
     while exponent < 256 {
-        print_answer(front::passes(
+        print_answer(measure_front::passes(
             c,
             Front {
                 quality,

@@ -71,7 +71,7 @@ fn print_reading(c: Channel, bits: u32, r: Reading) {
     print::text(b" ");
     print::number(bits as u64);
     print::text(b" ");
-    print_answer(measure::measure(c, r));
+    print_answer(measure_reading::measure(c, r));
 }
 
 fn print_good(c: Channel, list: &[u32]) {
@@ -156,7 +156,7 @@ fn weight(m: Measured) -> u64 {
 }
 
 fn weight_at(i: u64, seed: u64) -> u64 {
-    weight(measure::measure(channel(i), Reading::Good(float(pattern(i, seed)))))
+    weight(measure_reading::measure(channel(i), Reading::Good(float(pattern(i, seed)))))
 }
 
 fn generated() -> u64 {
