@@ -1,5 +1,5 @@
 -- Rule 6 of 01: the number of a Good reading, and the current of the compensation. Definitions only.
-use Prim.Native.Nat.{ℕ, _+_, _≤_}
+use Prim.Native.Nat.{ℕ, _+_, _*_, _≤_}
 use mathlib.Core.List.{List}
 use lib.Dec.{eqb, leb}
 use lib.IntN.{ℤ, pos, natAbs, _+ℤ_, _-ℤ_}
@@ -7,12 +7,13 @@ use Rattle.common.specs.Choice.{choose}
 use Rattle.slots.specs.Slots.{slot, compensationCurrent}
 use Rattle.measure.specs.declared.Measured.{Measured}
 use Rattle.measure.specs.declared.Measured.the-variants as measured
+use Rattle.measure.specs.Readings.{mostVolts}
 use Rattle.busbar_current.specs.declared.Value.{Value}
 use Rattle.busbar_current.specs.declared.Value.the-variants.{Missing, Is}
 
 -- 200 V, or 200 A of a 5 A module, in thousandths: no reading is above it
 abbrev pub mostReading : ℕ
-mostReading = 200000
+mostReading = 1000 * mostVolts
 
 -- nor is a current that is the sum of two above this
 abbrev pub mostCurrent : ℕ

@@ -1,5 +1,5 @@
 -- What a reading counts as (01, 'What a tick brings'). Definitions only.
-use Prim.Native.Nat.{ℕ, _≤_}
+use Prim.Native.Nat.{ℕ, _*_, _≤_}
 use mathlib.Core.Bool.{Bool, true, false}
 use lib.Ieee.{Float, binary32, ofBits}
 use Rattle.measure.specs.declared.Channel.{Channel}
@@ -13,10 +13,16 @@ use Rattle.measure.specs.declared.Reading.the-variants.{Good, Held, Inva
 use Rattle.measure.specs.Exact.{inRange, thousandths}
 
 -- "200 V or 40 × k A", where k is 1 for a 1 A module and 5 for a 5 A one
+abbrev pub mostVolts : ℕ
+mostVolts = 200
+
+abbrev pub mostAmperes : ℕ
+mostAmperes = 40
+
 abbrev pub limitOf : Channel → ℕ
-limitOf Voltage = 200
-limitOf Current1A = 40
-limitOf Current5A = 200
+limitOf Voltage = mostVolts
+limitOf Current1A = mostAmperes
+limitOf Current5A = 5 * mostAmperes
 
 abbrev pub ifInRange : Bool → ℕ → Converted
 ifInRange true n = Whole n

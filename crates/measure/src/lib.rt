@@ -2,7 +2,7 @@
 ghost use mathlib.Core.Path.{_≡_};
 ghost use lib.Dec.{T};
 ghost use Rattle.measure.specs.Exact.{inRange, thousandths};
-ghost use Rattle.measure.specs.Readings.{limitOf, convertedOf};
+ghost use Rattle.measure.specs.Readings.{mostVolts, limitOf, convertedOf};
 
 // What the module hands over: a number in V or A, fresh or held from before, or nothing.
 pub enum Reading {
@@ -31,14 +31,19 @@ pub enum Converted {
     Whole(u32),
 }
 
+const MOST_VOLTS: u16 = 200;
+
+// Of a 1 A module; a 5 A one has five times as much.
+const MOST_AMPERES: u16 = 40;
+
 // The upper end of the range, in V or A.
 pub fn limit(c: Channel) -> u16
     ensures { λ r. ⌜ r ≡ limitOf c ⌝ }
 {
     match c {
-        Channel::Voltage => 200,
-        Channel::Current1A => 40,
-        Channel::Current5A => 200,
+        Channel::Voltage => MOST_VOLTS,
+        Channel::Current1A => MOST_AMPERES,
+        Channel::Current5A => 5 * MOST_AMPERES,
     }
 }
 
@@ -46,7 +51,7 @@ pub fn limit(c: Channel) -> u16
 // digits / 2^(150 - exponent); where the exponent is below 116, x is below 2^-11, which is less than half a thousandth, a
 // subnormal number among them, and gives 0.
 fn whole_thousandths(x: f32) -> u32
-    requires { ⌜ T (inRange 200 x) ⌝ }
+    requires { ⌜ T (inRange mostVolts x) ⌝ }
     ensures { λ r. ⌜ r ≡ thousandths x ⌝ }
 {
     let bits: u32 = f32::to_bits(x);

@@ -11,6 +11,7 @@ use lib.Dec.{leb, eqb}
 use Rattle.common.specs.Choice.{choose}
 use Rattle.common.proofs.Cases.{chosen}
 use Rattle.slots.specs.Slots.{slot, t4, t5, t8, isContinuous}
+use Rattle.sheet_ranges.specs.Table.{mostTicks}
 use Rattle.sheet.specs.Sheet.{passesOf}
 use Rattle.common.proofs.Joined.{split, and-five, and-false, or-true}
 use Rattle.sheet.proofs.Laws.{t1-range, t2-range, t3-range, t4-range, t5-range}
@@ -69,11 +70,11 @@ parts-motion s d w l p = rw (p .ticks, p .rested, p .moves, p .stopped, p .latch
 -- ---- rule 9: the wait and the drive after a decision
 
 module _ (s : List ℕ) (pass : passesOf s ≡ true) where
-  delay-most : (d : Direction) (far : Bool) (w : Way) → delayOf s d far w ≤ 36000
+  delay-most : (d : Direction) (far : Bool) (w : Way) → delayOf s d far w ≤ mostTicks
   unfolding delayOf
   delay-most d far w =
-      chosen (λ n. n ≤ 36000) _ _ _ (λ p. t3-range s pass .1)
-      (λ p. chosen (λ n. n ≤ 36000) _ _ _ (λ q. t2-range s pass .1) (λ q. t1-range s pass .1))
+      chosen (λ n. n ≤ mostTicks) _ _ _ (λ p. t3-range s pass .1)
+      (λ p. chosen (λ n. n ≤ mostTicks) _ _ _ (λ q. t2-range s pass .1) (λ q. t1-range s pass .1))
 
   -- the drive before and after, the latch, and a sound decision
   module _ (x : Situation) (o : Decided) (sound : Sound s x o) (d : Drive) (b : Bool) (l : Latch)

@@ -17,7 +17,7 @@ use Rattle.slots.specs.Slots.{slots}
 use Rattle.common.specs.Choice.{choose}
 use Rattle.common.proofs.Cases.{chosen}
 use Rattle.sheet_ranges.specs.Table.{rowOf, rowIn, moduleFactor, factorOf, lowOf, highOf, stepOf}
-use Rattle.sheet_ranges.specs.Columns.{lowColumn, highColumn, stepColumn, timesK}
+use Rattle.sheet_ranges.specs.Columns.{mostCurrent, mostImpedance, lowColumn, highColumn, stepColumn, timesK}
 use Rattle.sheet_ranges.proofs.Every.{every}
 
 -- k is 1 or 5: what holds with both holds with the sheet's
@@ -33,12 +33,12 @@ pub factor-le : (s : List ℕ) {k : ℕ} → k ≡ moduleFactor s → k ≤ 5
 factor-le s = with-module (λ k. k ≤ 5) (omega arith) (omega arith) s
 
 -- a number of a current row times k fits
-pub times-fits : {n k : ℕ} → n ≤ 40000 → k ≤ 5 → Fits w32 (n * k)
-times-fits p q = fits-le {n = 40000 * 5} (mul-le-mul p q) (fits-lit tt)
+pub times-fits : {n k : ℕ} → n ≤ mostCurrent → k ≤ 5 → Fits w32 (n * k)
+times-fits p q = fits-le {n = mostCurrent * 5} (mul-le-mul p q) (fits-lit tt)
 
 -- and of an impedance row times m ÷ k
-pub inverse-fits : {n m : ℕ} (k : ℕ) → n ≤ 80000 → m ≤ 5 → Fits w32 (n * (m / k))
-inverse-fits {m = m} k p q = fits-le {n = 80000 * 5} (mul-le-mul p (le-trans (div-le-self m k) q)) (fits-lit tt)
+pub inverse-fits : {n m : ℕ} (k : ℕ) → n ≤ mostImpedance → m ≤ 5 → Fits w32 (n * (m / k))
+inverse-fits {m = m} k p q = fits-le {n = mostImpedance * 5} (mul-le-mul p (le-trans (div-le-self m k) q)) (fits-lit tt)
 
 -- the columns of a list's ranges, at every slot
 pub record Columns (s : List ℕ) (lows highs steps : List ℕ) : Type 0 where

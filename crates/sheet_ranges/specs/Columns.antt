@@ -19,10 +19,17 @@ highColumn = columnFrom (λ r. r .high) 0 slots
 unfoldable pub stepColumn : List ℕ
 stepColumn = columnFrom (λ r. r .step) 0 slots
 
--- the rows that are scaled are small enough for their products
+-- the rows that are scaled are small enough for their products: no current's row is above 40 A, as for 1 A, no impedance's above 80 Ω, as
+-- for 5 A
+abbrev pub mostCurrent : ℕ
+mostCurrent = 40000
+
+abbrev pub mostImpedance : ℕ
+mostImpedance = 80000
+
 abbrev pub Scalable : List ℕ → Type 0
 Scalable l =
-    (getD l iSet1 0 ≤ 40000) × (getD l iSet2 0 ≤ 40000) × (getD l iSet3 0 ≤ 40000) × (getD l resistance 0 ≤ 80000) × (getD l reactance 0 ≤ 80000)
+    (getD l iSet1 0 ≤ mostCurrent) × (getD l iSet2 0 ≤ mostCurrent) × (getD l iSet3 0 ≤ mostCurrent) × (getD l resistance 0 ≤ mostImpedance) × (getD l reactance 0 ≤ mostImpedance)
 
 -- a column with its current rows times k
 abbrev currentsBy : ℕ → List ℕ → List ℕ

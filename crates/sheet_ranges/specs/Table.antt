@@ -94,6 +94,14 @@ rows =
     row 66 67 1 20000 1 ∷
     []
 
+-- a delay's most, 180 s in ticks
+abbrev pub mostTicks : ℕ
+mostTicks = 36000
+
+-- the highest tap
+abbrev pub mostTap : ℕ
+mostTap = 40
+
 -- the row that has the slot; 0–0 for what is no slot
 unfoldable pub rowIn : List Row → ℕ → Row
 rowIn [] i = row 0 0 0 0 1

@@ -8,7 +8,7 @@ use native.Mathlib.Numerals.{add-one}
 use native.Mathlib.Omega.{arith}
 use lib.Dec.{eqb}
 use Rattle.slots.specs.Slots.{slot, slidingTaps}
-use Rattle.tap_sliding.specs.Sliding.{standsIn, slidingOf}
+use Rattle.tap_sliding.specs.Sliding.{sliding, standsIn, slidingOf}
 
 module _ (s : List ℕ) (tap : ℕ) where
   pub stands-none : false ≡ standsIn s tap 0
@@ -19,6 +19,6 @@ module _ (s : List ℕ) (tap : ℕ) where
   unfolding standsIn
   stands-more found i e = rw (add-one, e)
 
-  pub stands-all : (found : Bool) (i : ℕ) → found ≡ standsIn s tap i → i ≤ 10 → 10 ≤ i → (found && not (eqb tap 0)) ≡ slidingOf s tap
+  pub stands-all : (found : Bool) (i : ℕ) → found ≡ standsIn s tap i → i ≤ sliding → sliding ≤ i → (found && not (eqb tap 0)) ≡ slidingOf s tap
   unfolding slidingOf
-  stands-all found i e h k = let ten : i ≡ 10 = omega arith in rw (e, ten)
+  stands-all found i e h k = let all : i ≡ sliding = omega arith in rw (e, all)

@@ -1,16 +1,16 @@
 use mathlib.Core.Path.{_≡_}
 use Prim.Native.Nat.{_≤_, _-_}
 use borrow.Author.Needs.{needs}
-use Rattle.tap_sliding.specs.Sliding.{standsIn}
+use Rattle.tap_sliding.specs.Sliding.{sliding, standsIn}
 use Rattle.tap_sliding.proofs.Members.{stands-none, stands-more, stands-all}
 use Rattle.tap_sliding.proofs.is_sliding.Statement.{statement}
 use Rattle.tap_sliding.proofs.is_sliding.Tie as tie
 
 abbrev Inv-loop : tie.InvT-loop
-Inv-loop s tap found₀ i₀ found i = (i ≤ 10) × (found ≡ standsIn s tap i)
+Inv-loop s tap found₀ i₀ found i = (i ≤ sliding) × (found ≡ standsIn s tap i)
 
 abbrev μ-loop : tie.MeasureT-loop
-μ-loop s tap found₀ i₀ found i = 10 - i
+μ-loop s tap found₀ i₀ found i = sliding - i
 
 loop-holds : tie.Need-loop-holds Inv-loop μ-loop
 loop-holds c = search (needs, stands-none)
