@@ -9,11 +9,11 @@ use native.Mathlib.Omega.{arith}
 use lib.ListN.{length, length-append}
 use Rattle.input.specs.declared.Input.{Input}
 use Rattle.record.specs.declared.Regulator.{Regulator}
-use Rattle.recording.specs.declared.ticks.Decoded.{Decoded}
-use Rattle.recording.specs.declared.ticks.Decoded.the-variants.{Tick, BadQuality, CutShort}
-use Rattle.recording.specs.Recorded.{tickBytes, decodedOf}
-use Rattle.recording.proofs.Made.{cut-short}
-use Rattle.recording.proofs.Parts.{whole-tick, decoded-first, decoded-second}
+use Rattle.recording_ticks.specs.declared.Decoded.{Decoded}
+use Rattle.recording_ticks.specs.declared.Decoded.the-variants.{Tick, BadQuality, CutShort}
+use Rattle.recording_ticks.specs.Recorded.{tickBytes, decodedOf}
+use Rattle.recording_ticks.proofs.Made.{cut-short}
+use Rattle.recording_ticks.proofs.Parts.{whole-tick, decoded-first, decoded-second}
 use Rattle.replay_playing.specs.Played.{Played, playedOn, onTick, playFrom, playedOf, playedAfter}
 use Rattle.replay_playing.proofs.Runs.{stop-at}
 

@@ -13,12 +13,12 @@ use lib.Dec.{leb}
 use Rattle.common.proofs.Cases.{yes, chosen}
 use Rattle.input.specs.declared.Input.{Input}
 use Rattle.record.specs.declared.Regulator.{Regulator}
-use Rattle.recording.specs.declared.ticks.Decoded.{Decoded}
-use Rattle.recording.specs.declared.ticks.Decoded.the-variants.{Tick, BadQuality, CutShort}
-use Rattle.recording.specs.Lines.{widest, lineOf, placed, writtenOf, endOf}
-use Rattle.recording.specs.Recorded.{tickBytes, decodedOf}
-use Rattle.recording.proofs.Texts.{most-digits}
-use Rattle.recording.proofs.Made.{cut-short}
+use Rattle.recording_ticks.specs.declared.Decoded.{Decoded}
+use Rattle.recording_ticks.specs.declared.Decoded.the-variants.{Tick, BadQuality, CutShort}
+use Rattle.recording_lines.specs.Lines.{widest, lineOf, placed, writtenOf, endOf}
+use Rattle.recording_ticks.specs.Recorded.{tickBytes, decodedOf}
+use Rattle.recording_lines.proofs.Texts.{most-digits}
+use Rattle.recording_ticks.proofs.Made.{cut-short}
 use Rattle.showing.specs.Showing.{fieldCount, fieldsOf, outputsOf}
 use Rattle.rules.specs.declared.Ticked.{Ticked}
 use Rattle.rules.specs.Ticks as ticks

@@ -6,11 +6,11 @@ use mathlib.Core.List.{List, [], _++_}
 use lib.ListN.{length, take}
 use Rattle.input.specs.declared.Input.{Input}
 use Rattle.record.specs.declared.Regulator.{Regulator}
-use Rattle.recording.specs.declared.ticks.Decoded.{Decoded}
-use Rattle.recording.specs.declared.ticks.Decoded.the-variants.{Tick, BadQuality, CutShort}
+use Rattle.recording_ticks.specs.declared.Decoded.{Decoded}
+use Rattle.recording_ticks.specs.declared.Decoded.the-variants.{Tick, BadQuality, CutShort}
 use Rattle.showing.specs.Showing.{fieldCount}
-use Rattle.recording.specs.Lines.{widest, lineOf, placed}
-use Rattle.recording.specs.Recorded.{tickBytes, decodedOf}
+use Rattle.recording_lines.specs.Lines.{widest, lineOf, placed}
+use Rattle.recording_ticks.specs.Recorded.{tickBytes, decodedOf}
 use Rattle.rules.specs.Ticks.{tickOf}
 use Rattle.replay_playing.specs.declared.Stepped.{Stepped}
 

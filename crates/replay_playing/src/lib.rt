@@ -3,11 +3,11 @@ ghost use Prim.Native.Nat.{_+_, _*_, _≤_};
 ghost use mathlib.Core.Path.{_≡_};
 ghost use lib.ListN.{length};
 ghost use Rattle.io.specs.Counts.{Counts};
-ghost use Rattle.recording.specs.Recorded.{tickBytes, decodedOf};
+ghost use Rattle.recording_ticks.specs.Recorded.{tickBytes, decodedOf};
 ghost use Rattle.replay_playing.specs.Played.{lineRoom, stepOf, linesOf, playedTo, playedOf};
 use record::Regulator;
-use recording::ticks::Decoded;
-use recording::ticks::TICK;
+use recording_ticks::Decoded;
+use recording_ticks::TICK;
 
 // After one tick: the next record, the end of the lines, and whether there was a tick.
 pub struct Stepped {
@@ -29,14 +29,14 @@ fn step(state: Regulator, bytes: &[u8], at: usize, lines: &mut [u8], end: usize)
     ensures step { λ r. ⌜ r ≡ stepOf (decodedOf (now (bytes .entry)) at) state end ⌝ }
     ensures text { λ r. ⌜ now (lines .exit) ≡ linesOf (decodedOf (now (bytes .entry)) at) state (now (lines .entry)) end ⌝ }
 {
-    let decoded = recording::ticks::decode_tick(bytes, at);
+    let decoded = recording_ticks::decode_tick(bytes, at);
     match decoded {
         Decoded::Tick(input) => {
             let ticked = regulator::tick(state, input);
             let reply = ticked.reply;
             let outputs = reply.outputs;
             let next = ticked.next;
-            let past = recording::lines::write_line(&outputs, lines, end);
+            let past = recording_lines::write_line(&outputs, lines, end);
             Stepped {
                 next: next,
                 end: past,

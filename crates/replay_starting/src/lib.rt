@@ -4,8 +4,8 @@ ghost use Rattle.replay_starting.specs.Started.{Answered, RunFrom};
 use libc::STDOUT_FILENO;
 use record::Regulator;
 use record::starting::Started;
-use recording::lines::WIDEST;
-use recording::sheets::SHEET;
+use recording_lines::WIDEST;
+use recording_sheets::SHEET;
 use replay_streamed::Ended;
 use sheet::Answer;
 
@@ -28,7 +28,7 @@ fn open_sheet(path: &[u8]) -> Read
     let mut bytes = [0u8; SHEET + 1];
     let filled = files::read_file(path, &mut bytes);
     let got = filled.got;
-    let started = recording::sheets::start(&bytes[..got]);
+    let started = recording_sheets::start(&bytes[..got]);
     Read {
         failed: filled.failed,
         started: started,
@@ -39,7 +39,7 @@ fn open_sheet(path: &[u8]) -> Read
 fn print_answer(a: Answer) -> bool {
     let numbers = [sheet::number(a), sheet::slot(a)];
     let mut line = [0u8; 2 * WIDEST];
-    let end = recording::lines::write_line(&numbers, &mut line, 0);
+    let end = recording_lines::write_line(&numbers, &mut line, 0);
     io::write_all(STDOUT_FILENO, &line[..end])
 }
 

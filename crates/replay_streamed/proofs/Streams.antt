@@ -12,10 +12,10 @@ use lib.ListN.{length, take, length-append}
 use lib.Seq.{length-take-le}
 use Rattle.input.specs.declared.Input.{Input}
 use Rattle.record.specs.declared.Regulator.{Regulator}
-use Rattle.recording.specs.declared.ticks.Decoded.{Decoded}
-use Rattle.recording.specs.declared.ticks.Decoded.the-variants.{Tick, BadQuality, CutShort}
-use Rattle.recording.specs.Recorded.{tickBytes, decodedOf}
-use Rattle.recording.proofs.Parts.{whole-tick}
+use Rattle.recording_ticks.specs.declared.Decoded.{Decoded}
+use Rattle.recording_ticks.specs.declared.Decoded.the-variants.{Tick, BadQuality, CutShort}
+use Rattle.recording_ticks.specs.Recorded.{tickBytes, decodedOf}
+use Rattle.recording_ticks.proofs.Parts.{whole-tick}
 use Rattle.replay_playing.specs.Played.{Played, playedOn, onTick, playFrom, playedOf, playedTo, playedAfter}
 use Rattle.replay_streamed.specs.Streamed.{chunkBytes, Chunk, Streamed, Replayed}
 use Rattle.replay_streamed.specs.declared.Advanced.{Advanced}

@@ -7,7 +7,7 @@ use mathlib.Core.List.{List, _++_}
 use lib.Dec.{eqb}
 use lib.ListN.{length, take}
 use Rattle.record.specs.declared.Regulator.{Regulator}
-use Rattle.recording.specs.Recorded.{tickBytes}
+use Rattle.recording_ticks.specs.Recorded.{tickBytes}
 use Rattle.replay_playing.specs.Played.{playedOf, playedTo}
 use Rattle.replay_streamed.specs.declared.Advanced.{Advanced}
 use Rattle.replay_streamed.specs.declared.Ended.{Ended}

@@ -2,13 +2,13 @@
 ghost use Prim.Native.Nat.{_+_, _*_, _≤_};
 ghost use mathlib.Core.Path.{_≡_};
 ghost use lib.ListN.{length};
-ghost use Rattle.recording.specs.Recorded.{tickBytes};
+ghost use Rattle.recording_ticks.specs.Recorded.{tickBytes};
 ghost use Rattle.replay_playing.specs.Played.{lineRoom, playedTo, playedOf};
 ghost use Rattle.replay_streamed.specs.Streamed.{chunkBytes, Chunk, Streamed, Replayed};
 use libc::STDOUT_FILENO;
 use record::Regulator;
-use recording::lines::WIDEST;
-use recording::ticks::TICK;
+use recording_lines::WIDEST;
+use recording_ticks::TICK;
 use replay_streamed::Advanced;
 use replay_streamed::Ended;
 use replay_streamed::Written;

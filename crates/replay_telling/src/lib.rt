@@ -1,6 +1,6 @@
 // What is told of a run on standard error, a line each.
 use libc::STDERR_FILENO;
-use recording::ticks::Decoded;
+use recording_ticks::Decoded;
 
 fn text(t: &[u8]) {
     io::write_all(STDERR_FILENO, t);
@@ -45,7 +45,7 @@ pub fn cut_short(path: &[u8], offset: u64) {
 // Says what ended the run: a bad quality byte, a read that failed, or bytes that are left over. `offset` is where the bytes start in
 // the file, and `done` how many of them were run.
 pub fn report(path: &[u8], bytes: &[u8], done: usize, offset: u64, failed: bool) {
-    let decoded = recording::ticks::decode_tick(bytes, done);
+    let decoded = recording_ticks::decode_tick(bytes, done);
     match decoded {
         Decoded::Tick(_) => {}
         Decoded::BadQuality { place, byte } => {
