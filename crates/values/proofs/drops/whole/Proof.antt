@@ -1,7 +1,9 @@
+-- `values::drops::whole` is safe: a float holds each number below 2^24.
+-- Assumes nothing.
 use Rattle.values.proofs.Magnitudes.{magnitudes}
 use borrow.Author.Needs.{needs}
-use Rattle.values.proofs.along.whole.Statement.{statement}
-use Rattle.values.proofs.along.whole.Tie as tie
+use Rattle.values.proofs.drops.whole.Statement.{statement}
+use Rattle.values.proofs.drops.whole.Tie as tie
 
 int-to-float-result : tie.Need-int-to-float-result
 int-to-float-result c = search magnitudes
