@@ -63,17 +63,21 @@ pub(crate) fn along(w: Row) -> Value {
     voltage_along(n[0], n[1], u_ab, i_bus, i_coupler)
 }
 
-// A number below 400,001, and the part that is so far above -200,000.
+// Generated parts go from -200,000 to 200,000, and as many impedances from 0 on.
+const HIGHEST: u32 = 200_000;
+
+const PARTS: u64 = 400_001;
+
 fn impedance(n: u64) -> u32 {
-    (n % 400_001) as u32
+    (n % PARTS) as u32
 }
 
 fn chance_part(n: u64) -> Reading {
     let d = impedance(n);
-    if d < 200_000 {
-        return part(true, 200_000 - d);
+    if d < HIGHEST {
+        return part(true, HIGHEST - d);
     }
-    part(false, d - 200_000)
+    part(false, d - HIGHEST)
 }
 
 pub(crate) fn chance_along(n: [u64; 6]) -> Value {
@@ -114,19 +118,26 @@ pub(crate) fn compensated(w: Row) -> Value {
     voltage_by([n[0], n[1], n[2], n[3], n[4], i_bus, i_coupler])
 }
 
-// With a 5 A module: steps of U_comp from 1 V on, ratings from 1 A on, and readings up to 200,000.
+// Generated steps of U_comp from 1 V on, ratings from 1 A on, and readings from 0 on.
+const STEPS: u64 = 391;
+
+const RATINGS: u64 = 20_000;
+
+const READINGS: u64 = 200_001;
+
+// With a 5 A module.
 pub(crate) fn chance_compensated(n: [u64; 6]) -> Value {
-    let u_comp = 1000 + 100 * (n[0] % 391) as u32;
-    let ct = 1 + (n[1] % 20_000) as u32;
-    let breaker = 1 + (n[2] % 20_000) as u32;
-    let u_ab = (n[3] % 200_001) as u32;
+    let u_comp = 1000 + 100 * (n[0] % STEPS) as u32;
+    let ct = 1 + (n[1] % RATINGS) as u32;
+    let breaker = 1 + (n[2] % RATINGS) as u32;
+    let u_ab = (n[3] % READINGS) as u32;
     voltage_by([
         1,
         u_comp,
         ct,
         breaker,
         u_ab,
-        (n[4] % 200_001) as u32,
-        (n[5] % 200_001) as u32,
+        (n[4] % READINGS) as u32,
+        (n[5] % READINGS) as u32,
     ])
 }

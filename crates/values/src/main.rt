@@ -29,12 +29,15 @@ fn value_of(r: Row) -> Value {
     }
 }
 
+// The turns of a row that tries every byte.
+const BYTES: usize = 256;
+
 // One turn of a row that has many.
 fn turned(bytes: &[u8], r: Row, t: Turn, i: usize) -> Turn {
     let kind = r.kind;
     match kind {
-        b'f' => readings::print_front(r, (i % 256) as u8),
-        b'b' => sheets::print_code(bytes, r, (i % 256) as u8),
+        b'f' => readings::print_front(r, (i % BYTES) as u8),
+        b'b' => sheets::print_code(bytes, r, (i % BYTES) as u8),
         b't' => return sheets::tried(bytes, r, t, i),
         _ => return chance::generated(kind, i as u64, t),
     }
@@ -61,11 +64,11 @@ fn print_row(bytes: &[u8], r: Row) {
             print_turns(bytes, r, sheets::TURNS);
         }
         b'b' => {
-            print_turns(bytes, r, 256);
+            print_turns(bytes, r, BYTES);
         }
         b'f' => {
             rows::print_text(bytes, r);
-            print_turns(bytes, r, 256);
+            print_turns(bytes, r, BYTES);
             print::text(b"\n");
         }
         b'R' | b'P' | b'A' | b'D' => {

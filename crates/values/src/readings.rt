@@ -11,9 +11,11 @@ use measure::front::Quality;
 use phasor::Phasor;
 use phasor::Vector;
 
-// Only a current of a 1 A module is limited to 40.
+// The limit of a 1 A module's current, and of nothing else.
+const LIMIT_1A: u32 = 40;
+
 pub(crate) fn limited_to(limit: u32) -> Channel {
-    if limit == 40 {
+    if limit == LIMIT_1A {
         return Channel::Current1A;
     }
     Channel::Voltage

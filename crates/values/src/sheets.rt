@@ -80,12 +80,15 @@ pub(crate) fn tried(bytes: &[u8], r: Row, t: Turn, i: usize) -> Turn {
     }
 }
 
-// A byte of BCD lines, with taps 1 to 40: tap, wrong code, range error.
+// The last tap.
+const LAST: u32 = 40;
+
+// A byte of BCD lines, with taps from 1 on: tap, wrong code, range error.
 pub(crate) fn print_code(bytes: &[u8], r: Row, lines: u8) {
     let mut s = [0u32; SLOTS];
     s[TAP_SOURCE] = 1;
     s[N_L] = 1;
-    s[N_R] = 40;
+    s[N_R] = LAST;
     let p = tap::position::read_position(&s, lines, 0, 20);
     rows::print_text(bytes, r);
     print::field(lines as u64);
