@@ -11,7 +11,8 @@ pub fn reading_by(quality: u32, x: f32) -> Reading
         return Reading::Good(x);
     }
     if quality == 1 {
-        return Reading::Held(x);
+        Reading::Held(x)
+    } else {
+        Reading::Invalid
     }
-    Reading::Invalid
 }
