@@ -7,22 +7,30 @@ use Rattle.common.specs.Choice.{choose}
 use Rattle.slots.specs.Slots.{slot, wearCount}
 use Rattle.ways.specs.declared.Way.{Way}
 use Rattle.ways.specs.Ways.{newerOf}
-use Rattle.tap.specs.Counted.{countedOf}
+use Rattle.tap_counted.specs.Counted.{countedOf}
 use Rattle.acting_accounting.specs.declared.Accounted.{Accounted}
+use Rattle.acting_accounting.specs.declared.Wear.{Wear}
+
+-- "held at 999,999"
+abbrev pub mostOperations : ℕ
+mostOperations = 999999
 
 -- "adds 1 to operations if slot 17 (held at 999,999)"
 unfoldable pub oneMoreOf : List ℕ → ℕ → ℕ
-oneMoreOf s n = choose (eqb (slot s wearCount) 1) (choose (ltb n 999999) (n + 1) 999999) n
+oneMoreOf s n = choose (eqb (slot s wearCount) 1) (choose (ltb n mostOperations) (n + 1) mostOperations) n
 
 unfoldable pub operationsOf : List ℕ → ℕ → Bool → ℕ
 operationsOf s n operation = choose operation (oneMoreOf s n) n
 
 -- a move that ended, and whether an operation counts; 02, ticket 2: without a contact "each command counts as one operation when it ends"
-unfoldable pub accountedOf : List ℕ → Way → Bool → Way → ℕ → ℕ → Accounted
-accountedOf s ended operation last operations tap =
+unfoldable pub accountedOf : List ℕ → Way → Bool → Wear → Accounted
+accountedOf s ended operation w =
     record {
-      last = newerOf ended last;
-      operations = operationsOf s operations operation;
-      tap = countedOf s tap ended .tap;
-      «range_error» = countedOf s tap ended .«range_error»;
+      wear =
+          record {
+            last = newerOf ended (w .last);
+            operations = operationsOf s (w .operations) operation;
+            «counted_tap» = countedOf s (w .«counted_tap») ended .tap;
+          };
+      «range_error» = countedOf s (w .«counted_tap») ended .«range_error»;
     }

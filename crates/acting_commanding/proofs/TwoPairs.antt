@@ -10,13 +10,13 @@ use Rattle.fault.specs.declared.Fault.{Fault}
 use Rattle.ways.specs.declared.Way.{Way}
 use Rattle.ways.specs.declared.Way.the-variants.{Neither}
 use Rattle.blocks.specs.declared.Blocks.{Blocks}
-use Rattle.command_pairs.specs.declared.Keys.{Keys}
+use Rattle.keys.specs.declared.Keys.{Keys}
+use Rattle.command.specs.declared.Memory.{Memory}
 use Rattle.command_pairs.specs.Pairs.{pairOf, changedOf, heardOf}
 use Rattle.command_deciding.proofs.Presses.{none-begins}
 use Rattle.command_pairs.proofs.TwoPairs.{change-drops, held-through}
 use Rattle.sensing.specs.declared.assessing.Assessed.{Assessed}
-use Rattle.acting_commanding.specs.declared.Memory.{Memory}
-use Rattle.acting_commanding.specs.Commanding.{askOf, keysOf, heardIn, situationOf, decisionOf, regulatedOf, dropsOf, keptPressOf}
+use Rattle.acting_commanding.specs.Commanding.{askOf, heardIn, situationOf, decisionOf, regulatedOf, dropsOf, keptPressOf}
 
 -- the contacts with these keys
 abbrev pub contactsWith : Keys → Contacts → Contacts
@@ -41,40 +41,34 @@ contactsWith k c =
       «u_supp2» = c .«u_supp2»;
       «u_supp3» = c .«u_supp3»;
       «u_supp4» = c .«u_supp4»;
-      «raise_button» = k .panel .raise;
-      «lower_button» = k .panel .lower;
-      remote = k .remote;
-      «remote_raise» = k .dispatcher .raise;
-      «remote_lower» = k .dispatcher .lower;
+      keys = k;
     }
 
--- "each pair remembers its own previous tick in both modes": each button is read as it is, whatever the mode
-pub read-in-both-modes : (k : Keys) (c : Contacts) → keysOf (contactsWith k c) ≡ k
-read-in-both-modes k c = refl
-
--- what of the record rule 9 goes by, with these keys and this press
+-- what rule 9 keeps, with these keys and this press
 abbrev pub memoryWith : Keys → Way → Memory → Memory
-memoryWith k press m = record { drive = m .drive; wait = m .wait; repeat = m .repeat; keys = k; remembered = press }
+memoryWith k press m = record { wait = m .wait; repeat = m .repeat; keys = k; remembered = press }
+
+-- what rule 9 keeps, but for the keys, which are these
+abbrev pub keyed : Keys → Memory → Memory
+keyed k m = memoryWith k (m .remembered) m
 
 module _ (c : Contacts) (m : Memory) (now before : Keys) (press : Way) (h : heardOf now before press ≡ heardIn c m) where
-  pub regulated-by-heard : (s : List ℕ) (a : Assessed) (b : Blocks) (d : Drive)
-      → regulatedOf s (contactsWith now c) a b (memoryWith before press m) d ≡ regulatedOf s c a b m d
-  unfolding regulatedOf decisionOf situationOf
-  regulated-by-heard s a b d = rw h refl
-
-  pub kept-by-heard : (f : Fault) → keptPressOf (contactsWith now c) f (memoryWith before press m) ≡ keptPressOf c f m
-  unfolding keptPressOf dropsOf
-  kept-by-heard f = rw h refl
+  -- the same drive, and the same memory but for the keys, which are this tick's
+  pub regulated-by-heard : (s : List ℕ) (a : Assessed) (b : Blocks) (was d : Drive) (f : Fault)
+      → regulatedOf s (contactsWith now c) a b (memoryWith before press m) was d f
+      ≡ record { drive = regulatedOf s c a b m was d f .drive; memory = keyed now (regulatedOf s c a b m was d f .memory) }
+  unfolding regulatedOf decisionOf situationOf keptPressOf dropsOf
+  regulated-by-heard s a b was d f = rw h refl
 
 -- nothing begins in manual mode on the tick of a change, where the buttons of the new mode's pair are held over from the previous tick
 module _ (c : Contacts) (m : Memory) where
-  unheard : changedOf (keysOf c) (m .keys) ≡ true → heardIn c m .remembered ≡ Neither
-  unheard k = change-drops (keysOf c) (m .keys) (m .remembered) k
+  unheard : changedOf (c .keys) (m .keys) ≡ true → heardIn c m .remembered ≡ Neither
+  unheard k = change-drops (c .keys) (m .keys) (m .remembered) k
 
-  pub held-begins-nothing : c .automatic ≡ false → changedOf (keysOf c) (m .keys) ≡ true
-      → (pairOf (c .remote) (keysOf c) .raise ≡ true → pairOf (c .remote) (m .keys) .raise ≡ true)
-      → (pairOf (c .remote) (keysOf c) .lower ≡ true → pairOf (c .remote) (m .keys) .lower ≡ true)
-      → (s : List ℕ) (a : Assessed) (b : Blocks) (d : Drive) → regulatedOf s c a b m d .drive ≡ d
+  pub held-begins-nothing : c .automatic ≡ false → changedOf (c .keys) (m .keys) ≡ true
+      → (pairOf (c .keys .remote) (c .keys) .raise ≡ true → pairOf (c .keys .remote) (m .keys) .raise ≡ true)
+      → (pairOf (c .keys .remote) (c .keys) .lower ≡ true → pairOf (c .keys .remote) (m .keys) .lower ≡ true)
+      → (s : List ℕ) (a : Assessed) (b : Blocks) (was d : Drive) (f : Fault) → regulatedOf s c a b m was d f .drive ≡ d
   unfolding regulatedOf decisionOf situationOf askOf
-  held-begins-nothing e k p q s a b d =
-      rw (none-begins s (situationOf c a b m d) e (held-through (keysOf c) (m .keys) (m .remembered) p q) (unheard k))
+  held-begins-nothing e k p q s a b was d f =
+      rw (none-begins s (situationOf c a b m was d) e (held-through (c .keys) (m .keys) (m .remembered) p q) (unheard k))

@@ -13,10 +13,11 @@ use Rattle.drive_follow.specs.Follow.{followOf}
 use Rattle.drive_hold.specs.declared.Holding.{Holding}
 use Rattle.drive_hold.specs.Hold.{holdOf}
 use Rattle.fault.specs.Latches.{isFault, resetOf, latchedOf}
-use Rattle.tap.specs.Sliding.{slidingOf}
+use Rattle.tap_sliding.specs.Sliding.{slidingOf}
 use Rattle.acting_judging.specs.declared.Finding.{Finding}
 use Rattle.acting_supervising.specs.declared.Supervised.{Supervised}
-use Rattle.acting_judging.specs.Judging.{sideOf, isInBand, blockedOf}
+use Rattle.busbar_level.specs.Levels.{sideOf, isInBand}
+use Rattle.acting_judging.specs.Judging.{blockedOf}
 
 -- what a drive with a switching contact goes by: bit 15 local drive, bit 1 the switching contact, the latch after reset, the tap of rule 4
 unfoldable pub contactOf : List ℕ → Contacts → ℕ → Latch → Way → Contact

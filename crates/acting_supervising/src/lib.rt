@@ -31,7 +31,7 @@ fn contact_of(s: &[u32; SLOTS], c: Contacts, tap: u32, l: Latch, last: Way) -> C
 {
     let f = l.fault;
     let faulty = fault::is_fault(f);
-    let sliding = tap::sliding::is_sliding(s, tap);
+    let sliding = tap_sliding::is_sliding(s, tap);
     Contact {
         local: c.local_drive,
         closed: c.switching,
@@ -50,8 +50,8 @@ fn holding_of(s: &[u32; SLOTS], c: Contacts, x: Finding, l: Latch) -> Holding
     ensures { λ r. ⌜ r ≡ holdingOf (now (s .entry)) c x l ⌝ }
 {
     let level = x.level;
-    let side = acting_judging::side_of(level);
-    let band = acting_judging::is_in_band(level);
+    let side = busbar_level::side_of(level);
+    let band = busbar_level::is_in_band(level);
     let f = l.fault;
     let blocks = acting_judging::block(s, c, f, x);
     Holding {

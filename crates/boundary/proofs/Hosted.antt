@@ -1,31 +1,38 @@
 -- What a tick of an image promises, and the start of one.
 -- Assumes nothing.
 use mathlib.Core.Path.{_≡_, refl, sym, ap, _∙_, subst}
-use mathlib.Core.Bool.{Bool, true, false}
+use mathlib.Core.Bool.{Bool, true, false, false≢true}
 use mathlib.Core.List.{List, _∷_}
 use mathlib.Core.Logic.{_↔_}
 use Prim.Native.Nat.{ℕ}
 use native.Mathlib.Omega.{arith}
 use Rattle.common.specs.Choice.{choose}
-use Rattle.common.proofs.Cases.{yes, no}
+use Rattle.common.proofs.Cases.{no, chosen}
+use lib.ListN.{length}
 use Rattle.record.specs.declared.Regulator.{Regulator}
-use Rattle.record.specs.declared.starting.Started.{Started}
-use Rattle.record.specs.Limits.{withinOf}
+use Rattle.record_starting.specs.declared.Started.{Started}
+use Rattle.record_limits.specs.Limits.{withinOf}
 use Rattle.sheet.specs.declared.Answer.{Answer}
 use Rattle.sheet.specs.declared.Answer.the-variants.{Taken, WrongLength, OutOfRange, TapOrder, CountedTap}
 use Rattle.sheet.specs.Settings.{Settings}
 use Rattle.sheet.specs.Sheet.{numberOf}
 use Rattle.claim.specs.Claim.{Kept}
-use Rattle.rules.specs.Ticks.{refusedOf, tickOf}
+use Rattle.record.specs.declared.State.{State}
+use Rattle.record.specs.Whole.{regulatorOf}
+use Rattle.input.specs.declared.Input.{Input}
+use Rattle.rules.specs.declared.Stepped.{Stepped}
+use Rattle.rules.specs.Ticks.{refusedOf, tickOf, steppedOf}
 use Rattle.rules.proofs.Next.{tick-lasting}
-use Rattle.rules.proofs.Steps.{accepted-is}
-use Rattle.image.specs.declared.FromImage.{FromImage}
+use Rattle.rules.proofs.Steps.{accepted-is, settings-kept}
+use Rattle.image.specs.declared.Numbers.{Numbers}
 use Rattle.image.specs.declared.Image.{Image}
 use Rattle.image.specs.declared.bringing.Brought.{Brought}
-use Rattle.image.specs.Images.{imageOf, recordOf}
+use Rattle.image.specs.Images.{numbersOf, isState, stateOf, numbersIn, imageWith, imageOf, FromImage, recordOf}
+use Rattle.image.proofs.Whole.{taken-same}
 use Rattle.image.specs.Bringing.{inputOf}
+use Rattle.boundary.specs.declared.ticking.Advanced.{Advanced}
 use Rattle.boundary.specs.declared.ticking.ImageTicked.{ImageTicked}
-use Rattle.boundary.specs.Hosting.{tickedImage, advancedOf, refusedImage, isAccepted, imageTickOf}
+use Rattle.boundary.specs.Hosting.{tickedImage, advancedOf, refusedImage, isAccepted, imageTickOf, besidesOf, wholeOf}
 use Rattle.boundary.specs.Lists.{imageListFrom, imageOpening}
 use Rattle.boundary.proofs.Lists.{accepted-of, ticked-of, kept-on, none-accepted, none-ticked, none-kept}
 
@@ -82,21 +89,55 @@ either-promised m b true p same =
     subst (λ (q : Image). Promised q b (imageTickOf q b)) (same refl) (image-promised (recordOf m .state) b)
 either-promised m b false p same = none-promised m b p
 
--- with what `record_of` says of the image
-pub hosted : (m : Image) (b : Brought) {x : FromImage} {t : ImageTicked} → (x ≡ recordOf m) × (x .taken ≡ true → imageOf (x .state) ≡ m)
-    → t ≡ imageTickOf m b → Promised m b t
-hosted m b told u = subst (Promised m b) (sym u) (either-promised m b _ refl (rw (told .0) at (told .1)))
+-- the image's arrays of organs have their lengths by their type
+pub hosted : (m : Image) (b : Brought) {n : Numbers} {t : ImageTicked} → n ≡ numbersIn m → length (n .«organ_marks») ≡ 7
+    → length (n .«organ_counts») ≡ 7
+    → t ≡ imageTickOf m b
+    → Promised m b t
+hosted m b e h k u =
+    subst (Promised m b) (sym u)
+    (either-promised m b _ refl (taken-same m (subst (λ (q : Numbers). length (q .«organ_marks») ≡ length (q .«organ_counts»)) e (h ∙ sym k))))
 
 -- ---- over plain values, as the functions ask it
 
-module _ (m : Image) (b : Brought) {x : FromImage} {t : ImageTicked} (e : x ≡ recordOf m) where
-  pub advanced-made : x .taken ≡ true → t ≡ advancedOf (x .state) b → t ≡ imageTickOf m b
-  unfolding imageTickOf
-  advanced-made y u = yes _ _ _ _ (sym (ap (λ (q : FromImage). q .taken) e) ∙ y) (u ∙ ap (λ (q : FromImage). advancedOf (q .state) b) e)
+module _ (s : List ℕ) (b : Brought) where
+  pub run-made : (m : State) {i : Input} {x : Stepped} {n : Numbers} → i ≡ inputOf b → x ≡ steppedOf (tickOf (regulatorOf s m) i)
+      → n ≡ numbersOf (x .state)
+      → _≡_ {A = Advanced} (record { refusal = x .reply .refusal; outputs = record { fields = x .reply .outputs }; numbers = n })
+      (besidesOf (advancedOf (regulatorOf s m) b))
+  unfolding advancedOf tickedImage imageOf
+  run-made m p q u = rw (u, q, p) refl
 
-  pub refused-made : x .taken ≡ false → t ≡ refusedImage m → t ≡ imageTickOf m b
-  unfolding imageTickOf
-  refused-made n u = no _ _ _ _ (sym (ap (λ (q : FromImage). q .taken) e) ∙ n) u
+  module _ (n : Numbers) {t : Advanced} {is : Bool} (e : is ≡ isState n) where
+    pub state-advanced : is ≡ true → {m : State} → m ≡ stateOf n → t ≡ besidesOf (advancedOf (regulatorOf s m) b)
+        → t ≡ besidesOf (imageTickOf (imageWith s n) b)
+    unfolding imageTickOf recordOf choose
+    state-advanced y p u = rw (sym e ∙ y, ← p) u
+
+    pub none-advanced : is ≡ false → t ≡ besidesOf (refusedImage (imageWith s n)) → t ≡ besidesOf (imageTickOf (imageWith s n) b)
+    unfolding imageTickOf recordOf choose
+    none-advanced y u = rw (sym e ∙ y) u
+
+-- no tick changes the settings
+record-settings : (m : Image) → recordOf m .taken ≡ true → recordOf m .state .settings ≡ m .settings
+unfolding recordOf
+record-settings m =
+    chosen (λ (x : FromImage). x .taken ≡ true → x .state .settings ≡ m .settings) _ _ _ (λ _ _. refl) (λ _ p. absurd (false≢true p))
+
+image-settings : (m : Image) (b : Brought) → imageTickOf m b .next .settings ≡ m .settings
+unfolding imageTickOf advancedOf tickedImage imageOf refusedImage
+image-settings m b =
+    chosen (λ (t : ImageTicked). t .next .settings ≡ m .settings) _ _ _
+    (λ p. settings-kept (recordOf m .state) (inputOf b) ∙ record-settings m p)
+    (λ _. refl)
+
+-- a step of the image's numbers, with its settings put back, is its tick
+pub image-made : (m : Image) (b : Brought) {n : Numbers} {x : Advanced} {t : ImageTicked} → n ≡ numbersIn m
+    → x ≡ besidesOf (imageTickOf (imageWith (m .settings) n) b)
+    → t ≡ wholeOf (m .settings) x
+    → t ≡ imageTickOf m b
+image-made m b p q u =
+    rw (u, q, p) (ap (λ (s : List ℕ). wholeOf s (besidesOf (imageTickOf m b))) (sym (image-settings m b)))
 
 -- number 0 is that of a list that is taken
 taken-of : (a : Answer) → numberOf a ≡ 0 → a ≡ Taken

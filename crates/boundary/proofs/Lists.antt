@@ -12,7 +12,7 @@ use Rattle.drive_follow.specs.Follow.{restsOf}
 use Rattle.command.specs.declared.Wait.{Wait}
 use Rattle.command.specs.declared.Wait.the-variants.{Idle, For}
 use Rattle.record.specs.declared.Regulator.{Regulator}
-use Rattle.record.specs.Limits.{withinOf}
+use Rattle.record_limits.specs.Limits.{withinOf}
 use Rattle.claim.specs.Claim.{Tick, All, Kept}
 use Rattle.rules.specs.Ticks.{tickOf}
 use Rattle.rules.specs.Lists.{seen, ticksFrom, opening}
@@ -21,7 +21,7 @@ use Rattle.coding_drive.specs.Numbers.{driveImage}
 use Rattle.coding_wait.specs.Numbers.{waitImage}
 use Rattle.image.specs.declared.Image.{Image}
 use Rattle.image.specs.declared.bringing.Brought.{Brought}
-use Rattle.image.specs.Images.{imageOf, recordOf}
+use Rattle.image.specs.Images.{numbersOf, imageOf, recordOf}
 use Rattle.image.specs.Bringing.{inputOf}
 use Rattle.image.proofs.Whole.{back}
 use Rattle.boundary.specs.Hosting.{tickedImage, advancedOf, refusedImage, isAccepted, imageTickOf}
@@ -43,22 +43,22 @@ module _ (r : Regulator) where
   unfolding imageTickOf advancedOf choose
   ticked-of b = rw (back r)
 
-  rest-of : (d : Drive) → r .drive ≡ d → imageRests (imageOf r) ≡ restsOf (r .drive)
-  unfolding imageOf driveImage
+  rest-of : (d : Drive) → r .state .drive ≡ d → imageRests (imageOf r) ≡ restsOf (r .state .drive)
+  unfolding imageOf numbersOf driveImage
   rest-of Resting e = rw e
   rest-of (Asked d n true) e = rw e
   rest-of (Asked d n false) e = rw e
   rest-of (Moving d n true) e = rw e
   rest-of (Moving d n false) e = rw e
 
-  low-of : (w : Wait) → r .wait ≡ w → imageOpening (imageOf r) .lowWait ≡ opening r .lowWait
-  unfolding imageOf waitImage choose
+  low-of : (w : Wait) → r .state .memory .wait ≡ w → imageOpening (imageOf r) .lowWait ≡ opening r .lowWait
+  unfolding imageOf numbersOf waitImage choose
   low-of Idle e = rw e
   low-of (For Raise n) e = rw e
   low-of (For Lower n) e = rw e
 
-  high-of : (w : Wait) → r .wait ≡ w → imageOpening (imageOf r) .highWait ≡ opening r .highWait
-  unfolding imageOf waitImage choose
+  high-of : (w : Wait) → r .state .memory .wait ≡ w → imageOpening (imageOf r) .highWait ≡ opening r .highWait
+  unfolding imageOf numbersOf waitImage choose
   high-of Idle e = rw e
   high-of (For Raise n) e = rw e
   high-of (For Lower n) e = rw e

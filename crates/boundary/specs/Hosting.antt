@@ -1,19 +1,21 @@
 -- What the functions that a host calls answer. Definitions only.
 use Prim.Native.Nat.{ℕ}
 use mathlib.Core.Bool.{Bool, _&&_}
+use mathlib.Core.List.{List}
 use lib.ListN.{replicate}
 use Rattle.showing.specs.Showing.{fieldCount}
 use Rattle.common.specs.Choice.{choose}
 use Rattle.record.specs.declared.Regulator.{Regulator}
-use Rattle.record.specs.Limits.{withinOf}
-use Rattle.record.specs.Starting.{Start}
+use Rattle.record_limits.specs.Limits.{withinOf}
+use Rattle.record_starting.specs.Starting.{Start}
 use Rattle.rules.specs.declared.Ticked.{Ticked}
 use Rattle.rules.specs.Ticks.{tickOf}
 use Rattle.image.specs.declared.Image.{Image}
 use Rattle.image.specs.declared.bringing.Brought.{Brought}
-use Rattle.image.specs.Images.{imageOf, recordOf}
+use Rattle.image.specs.Images.{numbersIn, imageWith, imageOf, recordOf}
 use Rattle.image.specs.Bringing.{inputOf}
 use Rattle.boundary.specs.declared.Started.{Started}
+use Rattle.boundary.specs.declared.ticking.Advanced.{Advanced}
 use Rattle.boundary.specs.declared.ticking.ImageTicked.{ImageTicked}
 use Rattle.boundary.specs.declared.ticking.Outputs.{Outputs}
 
@@ -39,6 +41,14 @@ isAccepted m = recordOf m .taken && withinOf (recordOf m .state)
 -- the tick of the image's record; refused where there is none
 unfoldable pub imageTickOf : Image → Brought → ImageTicked
 imageTickOf m b = choose (recordOf m .taken) (advancedOf (recordOf m .state) b) (refusedImage m)
+
+-- what a tick answers and leaves but for the settings
+abbrev pub besidesOf : ImageTicked → Advanced
+besidesOf t = record { refusal = t .refusal; outputs = t .outputs; numbers = numbersIn (t .next) }
+
+-- and with them
+abbrev pub wholeOf : List ℕ → Advanced → ImageTicked
+wholeOf s x = record { refusal = x .refusal; outputs = x .outputs; next = imageWith s (x .numbers) }
 
 -- what a host that lent an image finds: the number returned, the outputs, and the image
 abbrev pub foundOf : ℕ → Outputs → Image → ImageTicked

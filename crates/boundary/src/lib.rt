@@ -6,7 +6,7 @@ ghost use mathlib.Core.List.{List};
 ghost use mathlib.Core.Logic.{_↔_};
 ghost use Rattle.common.specs.Choice.{choose};
 ghost use Rattle.sheet.specs.Settings.{Settings};
-ghost use Rattle.record.specs.Starting.{startOf};
+ghost use Rattle.record_starting.specs.Starting.{startOf};
 ghost use Rattle.claim.specs.Claim.{Kept};
 ghost use Rattle.boundary.specs.Hosting.{startedImage, refusedImage, isAccepted, imageTickOf, foundOf};
 ghost use Rattle.boundary.specs.Lists.{imageListFrom, imageOpening};
@@ -35,7 +35,7 @@ pub extern "C" fn avr_start(list: &[u32]) -> Started
     ensures exactly { λ r. ⌜ ((r .number ≡ 0) ↔ Settings (now (list .entry))) ⌝ }
     ensures lasting { λ r. ⌜ (r .number ≡ 0 → isAccepted (r .image) ≡ true) ⌝ }
 {
-    let s = record::starting::start(list);
+    let s = record_starting::start(list);
     let a = s.answer;
     let state = s.state;
     let number = sheet::number(a);
@@ -73,7 +73,7 @@ pub extern "C" fn avr_tick(image: &mut Image, brought: &Brought, outputs: &mut O
     x.refusal
 }
 
-// The same of an image by value.
+// The same of an image by value. It calls what `image_tick` calls, so that the compiler puts `image_tick` into its one caller.
 #[no_mangle]
 pub extern "C" fn avr_tick_by_value(image: Image, brought: Brought) -> ImageTicked
     ensures each { λ t. ⌜ t ≡ imageTickOf image brought ⌝ }
@@ -83,5 +83,8 @@ pub extern "C" fn avr_tick_by_value(image: Image, brought: Brought) -> ImageTick
     ensures lists { λ t.
         ⌜ ((later : List Brought) → Kept (imageOpening image) (imageListFrom image brought t later)) ⌝ }
 {
-    ticking::image_tick(image, brought)
+    let settings = image.settings;
+    let before = image::images::numbers_in(image);
+    let x = ticking::advance(&settings, before, brought);
+    ticking::with_settings(settings, x)
 }

@@ -5,11 +5,15 @@ ghost use mathlib.Core.List.{List};
 ghost use Rattle.common.specs.Choice.{choose};
 ghost use Rattle.claim.specs.Claim.{Kept};
 ghost use Rattle.boundary.specs.Lists.{imageListFrom, imageOpening};
-ghost use Rattle.boundary.specs.Hosting.{advancedOf, refusedImage, isAccepted, imageTickOf};
+ghost use Rattle.boundary.specs.Hosting.{advancedOf, refusedImage, isAccepted, imageTickOf, besidesOf, wholeOf};
+ghost use Rattle.record.specs.Whole.{regulatorOf};
+ghost use Rattle.image.specs.Images.{imageWith};
 use image::Image;
+use image::Numbers;
 use image::bringing::Brought;
-use record::Regulator;
+use record::State;
 use showing::FIELDS;
+use slots::SLOTS;
 
 // The outputs, by field.
 #[repr(C)]
@@ -25,24 +29,64 @@ pub struct ImageTicked {
     pub next: Image,
 }
 
-// The tick of a record, and the image of the next one.
-fn advance(r: Regulator, b: Brought) -> ImageTicked
-    ensures { λ t. ⌜ t ≡ advancedOf r b ⌝ }
+// The same but for the settings.
+pub struct Advanced {
+    pub refusal: u32,
+    pub outputs: Outputs,
+    pub numbers: Numbers,
+}
+
+// The tick of a state, and the numbers of the next one.
+fn run(s: &[u32; SLOTS], m: State, b: Brought) -> Advanced
+    ensures { λ t. ⌜ t ≡ besidesOf (advancedOf (regulatorOf (now (s .entry)) m) b) ⌝ }
 {
     let i = image::bringing::input_of(b);
-    let x = regulator::tick(r, i);
+    let x = regulator::step(s, m, i);
     let reply = x.reply;
     let fields = reply.outputs;
-    let after = x.next;
-    let next = image::images::image_of(after);
-    ImageTicked {
+    let after = x.state;
+    let numbers = image::images::numbers_of(after);
+    Advanced {
         refusal: reply.refusal,
         outputs: Outputs { fields: fields },
+        numbers: numbers,
+    }
+}
+
+// Numbers that are no state's are refused as a record outside its limits is: 4, outputs all 0, the numbers left as they were.
+pub(crate) fn advance(s: &[u32; SLOTS], n: Numbers, b: Brought) -> Advanced
+    ensures { λ t. ⌜ t ≡ besidesOf (imageTickOf (imageWith (now (s .entry)) n) b) ⌝ }
+{
+    if image::images::is_state(n) {
+        let state = image::images::state_of(n);
+        run(s, state, b)
+    } else {
+        Advanced {
+            refusal: 4,
+            outputs: Outputs {
+                fields: [0u32; FIELDS],
+            },
+            numbers: n,
+        }
+    }
+}
+
+// The whole of it, with the settings put back.
+pub(crate) fn with_settings(settings: [u32; SLOTS], x: Advanced) -> ImageTicked
+    ensures { λ t. ⌜ t ≡ wholeOf settings x ⌝ }
+{
+    let outputs = x.outputs;
+    let after = x.numbers;
+    let next = image::images::image_with(settings, after);
+    ImageTicked {
+        refusal: x.refusal,
+        outputs: outputs,
         next: next,
     }
 }
 
-// An image that is no record is refused as a record outside its limits is: 4, outputs all 0, the image left as it was.
+// The tick of an image. One that is no record's is refused as a record outside its limits is: 4, outputs all 0, the image left as it
+// was.
 pub fn image_tick(m: Image, b: Brought) -> ImageTicked
     ensures each { λ t. ⌜ t ≡ imageTickOf m b ⌝ }
     ensures refusal { λ t. ⌜ t .refusal ≡ choose (isAccepted m) 0 4 ⌝ }
@@ -50,17 +94,8 @@ pub fn image_tick(m: Image, b: Brought) -> ImageTicked
     ensures lasting { λ t. ⌜ isAccepted (t .next) ≡ isAccepted m ⌝ }
     ensures lists { λ t. ⌜ ((later : List Brought) → Kept (imageOpening m) (imageListFrom m b t later)) ⌝ }
 {
-    let x = image::images::record_of(m);
-    if x.taken {
-        let state = x.state;
-        advance(state, b)
-    } else {
-        ImageTicked {
-            refusal: 4,
-            outputs: Outputs {
-                fields: [0u32; FIELDS],
-            },
-            next: m,
-        }
-    }
+    let settings = m.settings;
+    let before = image::images::numbers_in(m);
+    let x = advance(&settings, before, b);
+    with_settings(settings, x)
 }

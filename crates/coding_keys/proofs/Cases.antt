@@ -3,7 +3,7 @@
 use mathlib.Core.Path.{_≡_}
 use mathlib.Core.Bool.{true, _&&_}
 use Rattle.common.proofs.Joined.{and-left, and-right}
-use Rattle.command_pairs.specs.declared.Keys.{Keys}
+use Rattle.keys.specs.declared.Keys.{Keys}
 use Rattle.coding_keys.specs.declared.KeyImage.{KeyImage}
 use Rattle.coding_flag.specs.Numbers.{isBit}
 use Rattle.coding_keys.specs.Numbers.{keyImage, keysOf, areKeys}

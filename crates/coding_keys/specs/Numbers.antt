@@ -1,7 +1,7 @@
 -- The keys of the previous tick in numbers: the number of each case, and the case of each number. Definitions only.
 use mathlib.Core.Bool.{Bool, _&&_}
 use lib.Dec.{eqb}
-use Rattle.command_pairs.specs.declared.Keys.{Keys}
+use Rattle.keys.specs.declared.Keys.{Keys}
 use Rattle.coding_keys.specs.declared.KeyImage.{KeyImage}
 use Rattle.coding_flag.specs.Numbers.{bitOf, isBit}
 

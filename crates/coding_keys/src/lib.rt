@@ -1,8 +1,8 @@
 // The keys of the previous tick in numbers, and back; which numbers stand for a case.
 ghost use mathlib.Core.Path.{_≡_};
 ghost use Rattle.coding_keys.specs.Numbers.{keyImage, keysOf, areKeys};
-use command::Buttons;
-use command_pairs::Keys;
+use keys::Buttons;
+use keys::Keys;
 
 // The keys of the previous tick, each 0 or 1: the panel's two buttons, the dispatcher's, and the mode, 1 being remote.
 #[repr(C)]

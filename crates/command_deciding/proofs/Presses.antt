@@ -13,7 +13,7 @@ use Rattle.ways.specs.declared.Direction.the-variants.{Raise, Lower}
 use Rattle.ways.specs.declared.Way.{Way}
 use Rattle.ways.specs.declared.Way.the-variants.{Neither, To}
 use Rattle.ways.specs.Ways.{raises, lowers, newerOf}
-use Rattle.command.specs.declared.Buttons.{Buttons}
+use Rattle.keys.specs.declared.Buttons.{Buttons}
 use Rattle.command.specs.declared.Decided.{Decided}
 use Rattle.command.specs.declared.Situation.{Situation}
 use Rattle.command.specs.Idling.{idleOf}

@@ -6,7 +6,7 @@ use Rattle.common.proofs.Cases.{yes, no, cases}
 use Rattle.ways.specs.declared.Way.{Way}
 use Rattle.ways.specs.declared.Way.the-variants.{Neither}
 use Rattle.ways.specs.Ways.{raises, lowers, newerOf}
-use Rattle.command.specs.declared.Buttons.{Buttons}
+use Rattle.keys.specs.declared.Buttons.{Buttons}
 use Rattle.command.specs.declared.Wait.the-variants.{Idle}
 use Rattle.command.specs.declared.Situation.{Situation}
 use Rattle.command.specs.declared.Decided.{Decided}

@@ -7,7 +7,7 @@ use Rattle.ways.specs.declared.Direction.{Direction}
 use Rattle.ways.specs.declared.Way.{Way}
 use Rattle.ways.specs.declared.Way.the-variants.{Neither, To}
 use Rattle.ways.specs.Ways.{newerOf}
-use Rattle.command.specs.declared.Buttons.{Buttons}
+use Rattle.keys.specs.declared.Buttons.{Buttons}
 use Rattle.command_manual.specs.Manual.{pressedOf, rememberedOf}
 
 -- buttons that are all held over from the previous tick are no press

@@ -1,10 +1,10 @@
 // Rule 9 in manual mode: a press, one that was made while the drive ran included.
 ghost use mathlib.Core.Path.{_≡_};
 ghost use Rattle.command_manual.specs.Manual.{pressedOf, soughtOf, manualOf, rememberedOf};
-use command::Buttons;
 use command::Decided;
 use command::Situation;
 use command::Wait;
+use keys::Buttons;
 use ways::Direction;
 use ways::Way;
 

@@ -6,8 +6,8 @@ use Rattle.common.specs.Choice.{choose}
 use Rattle.common.proofs.Cases.{cases}
 use Rattle.ways.specs.declared.Way.{Way}
 use Rattle.ways.specs.declared.Way.the-variants.{Neither}
-use Rattle.command.specs.declared.Buttons.{Buttons}
-use Rattle.command_pairs.specs.declared.Keys.{Keys}
+use Rattle.keys.specs.declared.Buttons.{Buttons}
+use Rattle.keys.specs.declared.Keys.{Keys}
 use Rattle.command_pairs.specs.declared.Heard.{Heard}
 use Rattle.command_pairs.specs.Pairs.{pairOf, changedOf, heardOf}
 

@@ -5,8 +5,8 @@ use mathlib.Core.Bool.{Bool, true, false}
 use Rattle.common.specs.Choice.{choose}
 use Rattle.ways.specs.declared.Way.{Way}
 use Rattle.ways.specs.declared.Way.the-variants.{Neither}
-use Rattle.command.specs.declared.Buttons.{Buttons}
-use Rattle.command_pairs.specs.declared.Keys.{Keys}
+use Rattle.keys.specs.declared.Buttons.{Buttons}
+use Rattle.keys.specs.declared.Keys.{Keys}
 use Rattle.command_manual.specs.Manual.{pressedOf}
 use Rattle.command_pairs.specs.Pairs.{pairOf, changedOf, heardOf}
 use Rattle.command_manual.proofs.Presses.{none-new}

@@ -3,8 +3,8 @@ use mathlib.Core.Bool.{Bool, not, _&&_, _||_}
 use Rattle.common.specs.Choice.{choose}
 use Rattle.ways.specs.declared.Way.{Way}
 use Rattle.ways.specs.declared.Way.the-variants.{Neither}
-use Rattle.command.specs.declared.Buttons.{Buttons}
-use Rattle.command_pairs.specs.declared.Keys.{Keys}
+use Rattle.keys.specs.declared.Buttons.{Buttons}
+use Rattle.keys.specs.declared.Keys.{Keys}
 use Rattle.command_pairs.specs.declared.Heard.{Heard}
 
 -- the pair of a mode: "bit 21 chooses remote mode, bits 22 and 23 are the dispatcher's raise and lower. Bits 19 and 20 act only in local

@@ -1,15 +1,9 @@
 // Panel and dispatcher: which pair of buttons rule 9 goes by, and what a change of mode leaves of a remembered press.
 ghost use mathlib.Core.Path.{_≡_};
 ghost use Rattle.command_pairs.specs.Pairs.{pairOf, changedOf, heardOf};
-use command::Buttons;
+use keys::Buttons;
+use keys::Keys;
 use ways::Way;
-
-// The keys of a tick: the buttons on the panel, the dispatcher's, and whether remote mode is chosen.
-pub struct Keys {
-    pub panel: Buttons,
-    pub dispatcher: Buttons,
-    pub remote: bool,
-}
 
 // What manual mode goes by: the buttons of the mode's pair, on this tick and on the previous one, and the press that is still
 // remembered.

@@ -1,2 +1,1 @@
-pub mod Organs
 pub mod Whole

@@ -13,67 +13,69 @@ use Rattle.drive.specs.declared.Drive.{Drive}
 use Rattle.fault.specs.declared.Fault.{Fault}
 use Rattle.ways.specs.declared.Way.{Way}
 use Rattle.command.specs.declared.Wait.{Wait}
-use Rattle.command_pairs.specs.declared.Keys.{Keys}
+use Rattle.keys.specs.declared.Keys.{Keys}
 use Rattle.record.specs.declared.Regulator.{Regulator}
-use Rattle.record.specs.Starting.{zerosOf}
+use Rattle.record.specs.declared.State.{State}
+use Rattle.command.specs.declared.Memory.{Memory}
+use Rattle.record_starting.specs.Starting.{zerosOf}
 use Rattle.image.specs.declared.Image.{Image}
-use Rattle.image.specs.declared.FromImage.{FromImage}
+use Rattle.image.specs.declared.Numbers.{Numbers}
 use Rattle.coding_drive.specs.declared.DriveImage.{DriveImage}
 use Rattle.coding_wait.specs.declared.WaitImage.{WaitImage}
 use Rattle.coding_keys.specs.declared.KeyImage.{KeyImage}
 use Rattle.image.specs.declared.images.WayNumbers.{WayNumbers}
-use Rattle.image.specs.declared.places.OrganNumbers.{OrganNumbers}
+use Rattle.image_organs.specs.declared.OrganNumbers.{OrganNumbers}
 use Rattle.coding_ways.specs.Numbers.{isWay, wayOf}
 use Rattle.coding_fault.specs.Numbers.{faultNumber, isFault, faultOf}
 use Rattle.coding_drive.specs.Numbers.{driveImage, driveOf, isDrive}
 use Rattle.coding_wait.specs.Numbers.{waitImage, waitOf, isWait}
 use Rattle.coding_keys.specs.Numbers.{keyImage, keysOf, areKeys}
-use Rattle.image.specs.Places.{organNumbers, organsOf, areMarks}
-use Rattle.image.specs.Images.{wayNumbers, imageOf, isRecord, stateOf, takenOf, recordOf}
+use Rattle.image_organs.specs.Places.{organNumbers, organsOf, areMarks}
+use Rattle.image.specs.Images.{wayNumbers, numbersOf, isState, stateOf, numbersIn, imageWith, imageOf, FromImage, takenOf, recordOf}
 use Rattle.coding_ways.proofs.Cases.{way-back, way-is, way-same}
 use Rattle.coding_fault.proofs.Cases.{fault-back, fault-is, fault-same}
 use Rattle.coding_drive.proofs.Cases.{drive-back, drive-is, drive-same}
 use Rattle.coding_wait.proofs.Cases.{wait-back, wait-is, wait-same}
 use Rattle.coding_keys.proofs.Cases.{keys-back, keys-are, keys-same}
-use Rattle.image.proofs.Organs.{organs-back, organs-are, marks-same, counts-same}
+use Rattle.image_organs.proofs.Organs.{organs-back, organs-are, marks-same, counts-same}
 
 -- ---- from the record
 
-pub state-back : (r : Regulator) → stateOf (imageOf r) ≡ r
-unfolding stateOf imageOf wayNumbers
-state-back r =
+pub state-back : (m : State) → stateOf (numbersOf m) ≡ m
+unfolding stateOf numbersOf wayNumbers
+state-back m =
     rw (
-      organs-back (r .organs),
-      drive-back (r .drive),
-      fault-back (r .latch .fault),
-      wait-back (r .wait),
-      way-back (r .repeat),
-      way-back (r .last),
-      keys-back (r .keys),
-      way-back (r .remembered),
+      organs-back (m .organs),
+      drive-back (m .drive),
+      fault-back (m .latch .fault),
+      wait-back (m .memory .wait),
+      way-back (m .memory .repeat),
+      way-back (m .wear .last),
+      keys-back (m .memory .keys),
+      way-back (m .memory .remembered),
     )
 
-pub image-is : (r : Regulator) → isRecord (imageOf r) ≡ true
-unfolding isRecord imageOf wayNumbers
-image-is r =
+pub numbers-are : (m : State) → isState (numbersOf m) ≡ true
+unfolding isState numbersOf wayNumbers
+numbers-are m =
     rw (
-      organs-are (r .organs),
-      drive-is (r .drive),
-      fault-is (r .latch .fault),
-      wait-is (r .wait),
-      way-is (r .repeat),
-      way-is (r .last),
-      way-is (r .remembered),
-      keys-are (r .keys),
+      organs-are (m .organs),
+      drive-is (m .drive),
+      fault-is (m .latch .fault),
+      wait-is (m .memory .wait),
+      way-is (m .memory .repeat),
+      way-is (m .wear .last),
+      way-is (m .memory .remembered),
+      keys-are (m .memory .keys),
     )
 
 pub back : (r : Regulator) → recordOf (imageOf r) ≡ takenOf r
-unfolding recordOf choose
-back r = rw (image-is r, state-back r)
+unfolding recordOf imageOf choose
+back r = rw (numbers-are (r .state), state-back (r .state))
 
 -- ---- from the image
 
-module _ (m : Image) (p : isRecord m ≡ true) where
+module _ (m : Numbers) (p : isState m ≡ true) where
   -- what the test says of each part
   abbrev Parts : Type 0
   Parts =
@@ -81,7 +83,7 @@ module _ (m : Image) (p : isRecord m ≡ true) where
       × (isWay (m .repeat) ≡ true) × (isWay (m .last) ≡ true) × (isWay (m .remembered) ≡ true) × (areKeys (m .keys) ≡ true)
 
   parts : Parts
-  unfolding isRecord
+  unfolding isState
   parts =
       let marks = areMarks (m .«organ_marks») in
       let drive = isDrive (m .drive) in
@@ -107,9 +109,9 @@ module _ (m : Image) (p : isRecord m ≡ true) where
         and-right (marks && drive && fault && wait && (repeat && last && remembered)) keys p,
       )
 
-  pub image-same : length (m .«organ_marks») ≡ length (m .«organ_counts») → imageOf (stateOf m) ≡ m
-  unfolding imageOf stateOf wayNumbers
-  image-same h =
+  pub numbers-same : length (m .«organ_marks») ≡ length (m .«organ_counts») → numbersOf (stateOf m) ≡ m
+  unfolding numbersOf stateOf wayNumbers
+  numbers-same h =
       rw (
         marks-same _ _ (parts .0) h,
         counts-same (m .«organ_marks») _ h,
@@ -124,78 +126,56 @@ module _ (m : Image) (p : isRecord m ≡ true) where
 
 -- ---- over plain values, as the functions ask it
 
-module _ (r : Regulator) {n : OrganNumbers} {d : DriveImage} {f : ℕ} {w : WaitImage} {u : WayNumbers} {k : KeyImage} where
-  pub image-made : n ≡ organNumbers (r .organs) → d ≡ driveImage (r .drive) → f ≡ faultNumber (r .latch .fault) → w ≡ waitImage (r .wait)
-      → u ≡ wayNumbers r
-      → k ≡ keyImage (r .keys)
-      → _≡_ {A = Image}
+module _ (m : State) {n : OrganNumbers} {d : DriveImage} {f : ℕ} {w : WaitImage} {u : WayNumbers} {k : KeyImage} where
+  pub numbers-made : n ≡ organNumbers (m .organs) → d ≡ driveImage (m .drive) → f ≡ faultNumber (m .latch .fault) → w ≡ waitImage (m .memory .wait)
+      → u ≡ wayNumbers m
+      → k ≡ keyImage (m .memory .keys)
+      → _≡_ {A = Numbers}
       (record {
-        settings = r .settings;
         «organ_marks» = n .marks;
         «organ_counts» = n .counts;
         drive = d;
         fault = f;
-        «fault_age» = r .latch .age;
+        «fault_age» = m .latch .age;
         wait = w;
         repeat = u .repeat;
         last = u .last;
-        «counted_tap» = r .«counted_tap»;
-        operations = r .operations;
+        «counted_tap» = m .wear .«counted_tap»;
+        operations = m .wear .operations;
         keys = k;
         remembered = u .remembered;
       })
-      (imageOf r)
-  unfolding imageOf
-  image-made en ed ef ew eu ek = rw (en, ed, ef, ew, eu, ek)
+      (numbersOf m)
+  unfolding numbersOf
+  numbers-made en ed ef ew eu ek = rw (en, ed, ef, ew, eu, ek)
 
-module _ (m : Image) {os : List Organ} {d : Drive} {f : Fault} {w : Wait} {again last press : Way} {k : Keys} where
-  pub state-made : os ≡ organsOf (m .«organ_marks») (m .«organ_counts») → d ≡ driveOf (m .drive) → f ≡ faultOf (m .fault) → w ≡ waitOf (m .wait)
-      → again ≡ wayOf (m .repeat)
-      → last ≡ wayOf (m .last)
-      → press ≡ wayOf (m .remembered)
-      → k ≡ keysOf (m .keys)
-      → _≡_ {A = Regulator}
+module _ (n : Numbers) {os : List Organ} {d : Drive} {f : Fault} {m : Memory} {last : Way} where
+  pub state-made : os ≡ organsOf (n .«organ_marks») (n .«organ_counts») → d ≡ driveOf (n .drive) → f ≡ faultOf (n .fault)
+      → m ≡ stateOf n .memory
+      → last ≡ wayOf (n .last)
+      → _≡_ {A = State}
       (record {
-        settings = m .settings;
         organs = os;
         drive = d;
-        latch = record { fault = f; age = m .«fault_age» };
-        wait = w;
-        repeat = again;
-        last = last;
-        «counted_tap» = m .«counted_tap»;
-        operations = m .operations;
-        keys = k;
-        remembered = press;
+        latch = record { fault = f; age = n .«fault_age» };
+        memory = m;
+        wear = record { last = last; operations = n .operations; «counted_tap» = n .«counted_tap» };
       })
-      (stateOf m)
+      (stateOf n)
   unfolding stateOf
-  state-made eo ed ef ew ea el ep ek = rw (eo, ed, ef, ew, ea, el, ep, ek)
+  state-made eo ed ef em el = rw (eo, ed, ef, em, el)
 
 pub imaged : (r : Regulator) {m : Image} → m ≡ imageOf r → (m ≡ imageOf r) × (recordOf m ≡ takenOf r)
 imaged r e = (e, rw e (back r))
 
-module _ (m : Image) {b : Bool} {s : Regulator} (t : b ≡ isRecord m) where
-  pub taken-made : b ≡ true → s ≡ stateOf m → takenOf s ≡ recordOf m
-  unfolding recordOf
-  taken-made y e = yes _ _ _ _ (sym t ∙ y) (ap takenOf e)
-
-  pub none-made : b ≡ false → s ≡ zerosOf → _≡_ {A = FromImage} (record { taken = false; state = s }) (recordOf m)
-  unfolding recordOf
-  none-made n e = no _ _ _ _ (sym t ∙ n) (ap (λ (q : Regulator). record { taken = false; state = q }) e)
-
--- an image that is taken passes the test
-taken-is : (m : Image) (b : Bool) → isRecord m ≡ b → recordOf m .taken ≡ true → b ≡ true
+-- an image that is taken passes the test, and is the image of the record that it gives
+taken-is : (m : Image) (b : Bool) → isState (numbersIn m) ≡ b → recordOf m .taken ≡ true → b ≡ true
 unfolding recordOf choose
 taken-is m true e p = refl
 taken-is m false e p = let k : _≡_ {A = Bool} false true = rw e at p in cc
 
 pub taken-same : (m : Image) → length (m .«organ_marks») ≡ length (m .«organ_counts») → recordOf m .taken ≡ true → imageOf (recordOf m .state) ≡ m
-unfolding recordOf choose
+unfolding recordOf imageOf choose
 taken-same m h p =
-    let t : isRecord m ≡ true = taken-is m (isRecord m) refl p in
-    rw t (image-same m t h)
-
-pub recorded : (m : Image) {x : FromImage} → length (m .«organ_marks») ≡ 7 → length (m .«organ_counts») ≡ 7 → x ≡ recordOf m
-    → (x ≡ recordOf m) × (x .taken ≡ true → imageOf (x .state) ≡ m)
-recorded m h k e = (e, (λ p. rw e (taken-same m (h ∙ sym k) (rw e at p))))
+    let t : isState (numbersIn m) ≡ true = taken-is m (isState (numbersIn m)) refl p in
+    rw t (ap (imageWith (m .settings)) (numbers-same (numbersIn m) t h))

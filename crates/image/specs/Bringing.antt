@@ -1,8 +1,6 @@
 -- What a tick brings, as the host hands it over. Definitions only.
-use lib.Dec.{eqb}
-use Rattle.common.specs.Choice.{choose}
 use Rattle.measure.specs.declared.Reading.{Reading}
-use Rattle.measure.specs.declared.Reading.the-variants.{Good, Held, Invalid}
+use Rattle.quality.specs.Quality.{readingBy}
 use Rattle.phasor.specs.declared.Phasor.{Phasor}
 use Rattle.phasor.specs.declared.Phasors.{Phasors}
 use Rattle.input.specs.declared.Input.{Input}
@@ -10,8 +8,8 @@ use Rattle.image.specs.declared.bringing.Sample.{Sample}
 use Rattle.image.specs.declared.bringing.Brought.{Brought}
 
 -- quality 0 is Good, 1 is Held, any other Invalid
-unfoldable pub readingOf : Sample → Reading
-readingOf s = choose (eqb (s .quality) 0) (Good (s .value)) (choose (eqb (s .quality) 1) (Held (s .value)) Invalid)
+abbrev pub readingOf : Sample → Reading
+readingOf s = readingBy (s .quality) (s .value)
 
 -- 02, ticket 3: "a pair, real and imaginary part"
 unfoldable pub phasorOf : Sample → Sample → Phasor

@@ -37,14 +37,7 @@ pub struct Brought {
 fn reading_of(s: Sample) -> Reading
     ensures { λ r. ⌜ r ≡ readingOf s ⌝ }
 {
-    if s.quality == 0 {
-        return Reading::Good(s.value);
-    }
-    if s.quality == 1 {
-        Reading::Held(s.value)
-    } else {
-        Reading::Invalid
-    }
+    quality::reading_by(s.quality, s.value)
 }
 
 fn phasor_of(re: Sample, im: Sample) -> Phasor

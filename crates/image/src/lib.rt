@@ -2,12 +2,10 @@
 // to hand over a bool. One image for each record, and functions there and back.
 pub mod bringing;
 pub mod images;
-pub mod places;
 
 use coding_drive::DriveImage;
 use coding_keys::KeyImage;
 use coding_wait::WaitImage;
-use record::Regulator;
 use slots::SLOTS;
 
 // `fault`: 0 none, 1 run-away, 2 not started, 3 long, 4 fast. `repeat`, `last`, `remembered`: 0 none, 1 raise, 2 lower. A mark
@@ -29,8 +27,18 @@ pub struct Image {
     pub remembered: u32,
 }
 
-// What an image gives: its record, or, where it is no record's image, nothing and a record of zeros.
-pub struct FromImage {
-    pub taken: bool,
-    pub state: Regulator,
+// The image but for its settings: the state in numbers.
+pub struct Numbers {
+    pub organ_marks: [u32; 7],
+    pub organ_counts: [u32; 7],
+    pub drive: DriveImage,
+    pub fault: u32,
+    pub fault_age: u32,
+    pub wait: WaitImage,
+    pub repeat: u32,
+    pub last: u32,
+    pub counted_tap: u32,
+    pub operations: u32,
+    pub keys: KeyImage,
+    pub remembered: u32,
 }

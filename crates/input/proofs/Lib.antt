@@ -1,1 +1,2 @@
+pub mod Buttons
 pub mod Opened

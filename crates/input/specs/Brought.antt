@@ -36,11 +36,12 @@ contactsOf n =
       «u_supp2» = bitOf n 16;
       «u_supp3» = bitOf n 17;
       «u_supp4» = bitOf n 18;
-      «raise_button» = bitOf n 19;
-      «lower_button» = bitOf n 20;
-      remote = bitOf n 21;
-      «remote_raise» = bitOf n 22;
-      «remote_lower» = bitOf n 23;
+      keys =
+          record {
+            panel = record { raise = bitOf n 19; lower = bitOf n 20 };
+            dispatcher = record { raise = bitOf n 22; lower = bitOf n 23 };
+            remote = bitOf n 21;
+          };
     }
 
 -- "40 × k A": a 5 A module has five times the range of a 1 A one

@@ -1,6 +1,8 @@
 // What a tick brings: six readings, three pairs of readings, the contacts and keys, the BCD lines and the sensor byte.
 ghost use mathlib.Core.Path.{_≡_};
 ghost use Rattle.input.specs.Brought.{contactsOf, currentOf, readingsOf};
+use keys::Buttons;
+use keys::Keys;
 use measure::Channel;
 use measure::Measured;
 use measure::Reading;
@@ -19,7 +21,7 @@ pub struct Input {
     pub sensor: u8,
 }
 
-// The contacts and keys, each under its bit of the number, from bit 0 on.
+// The contacts and keys, in the order of their bits from bit 0 on, but for the mode, which stands last.
 pub struct Contacts {
     pub breaker_closed: bool,
     pub switching: bool,
@@ -40,11 +42,7 @@ pub struct Contacts {
     pub u_supp2: bool,
     pub u_supp3: bool,
     pub u_supp4: bool,
-    pub raise_button: bool,
-    pub lower_button: bool,
-    pub remote: bool,
-    pub remote_raise: bool,
-    pub remote_lower: bool,
+    pub keys: Keys,
 }
 
 // The six readings as they count, 3U0 being `u0`.
@@ -81,11 +79,17 @@ pub fn decode_contacts(n: u32) -> Contacts
         u_supp2: (n >> 16) % 2 == 1,
         u_supp3: (n >> 17) % 2 == 1,
         u_supp4: (n >> 18) % 2 == 1,
-        raise_button: (n >> 19) % 2 == 1,
-        lower_button: (n >> 20) % 2 == 1,
-        remote: (n >> 21) % 2 == 1,
-        remote_raise: (n >> 22) % 2 == 1,
-        remote_lower: (n >> 23) % 2 == 1,
+        keys: Keys {
+            panel: Buttons {
+                raise: (n >> 19) % 2 == 1,
+                lower: (n >> 20) % 2 == 1,
+            },
+            dispatcher: Buttons {
+                raise: (n >> 22) % 2 == 1,
+                lower: (n >> 23) % 2 == 1,
+            },
+            remote: (n >> 21) % 2 == 1,
+        },
     }
 }
 
@@ -111,12 +115,12 @@ pub fn measure_all(i: Input, five_ampere: bool) -> Readings
     let d = i.i_high;
     let e = i.i_bus;
     let f = i.i_coupler;
-    let u_ab = measure::measure(Channel::Voltage, a);
-    let u0 = measure::measure(Channel::Voltage, b);
-    let u2 = measure::measure(Channel::Voltage, c);
-    let i_high = measure::measure(current, d);
-    let i_bus = measure::measure(current, e);
-    let i_coupler = measure::measure(current, f);
+    let u_ab = measure_reading::measure(Channel::Voltage, a);
+    let u0 = measure_reading::measure(Channel::Voltage, b);
+    let u2 = measure_reading::measure(Channel::Voltage, c);
+    let i_high = measure_reading::measure(current, d);
+    let i_bus = measure_reading::measure(current, e);
+    let i_coupler = measure_reading::measure(current, f);
     Readings {
         u_ab: u_ab,
         u0: u0,

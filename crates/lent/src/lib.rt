@@ -1,7 +1,7 @@
 // The lent record: the host lends its one regulator record, and finds it advanced.
 ghost use mathlib.Core.Path.{_≡_};
 ghost use mathlib.Core.List.{List};
-ghost use Rattle.record.specs.Limits.{withinOf};
+ghost use Rattle.record_limits.specs.Limits.{withinOf};
 ghost use Rattle.claim.specs.Claim.{Kept};
 ghost use Rattle.rules.specs.Ticks.{tickOf};
 ghost use Rattle.rules.specs.Lists.{listFrom, opening};

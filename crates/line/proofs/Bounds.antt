@@ -13,7 +13,8 @@ use mir.Syntax.{w64}
 use mir.Val.{Fits, SFits, toZ}
 use mir.Facts.{fits-le, fits-lit}
 use Rattle.common.proofs.Signed.{Stands, exactly, literal, small, fits, read, back, cast-to, divided, looser, square, add, sub, mul}
-use Rattle.line.specs.Along.{highest, mostPart, mostCurrent, mostProduct, mostDrop, mostRemains, scaledOf, dropRe, dropIm, squaresOf}
+use Rattle.busbar_current.specs.Current.{mostCurrent}
+use Rattle.line.specs.Along.{mostImpedance, mostProduct, mostDrop, mostRemains, scaledOf, dropRe, dropIm, squaresOf}
 
 -- ---- √3 times a product
 
@@ -47,9 +48,9 @@ pub ruleset scaling = (enlarged-fits, reduced-fits, scaled-is, scaled-small, div
 
 -- ---- the drop's parts
 
-module _ (r x : ℕ) (re im : ℤ) (small-r : r ≤ highest) (small-x : x ≤ highest) (small-re : natAbs re ≤ mostCurrent) (small-im : natAbs im ≤ mostCurrent) where
-  by : {n : ℕ} (z : ℤ) → n ≤ highest → natAbs z ≤ mostCurrent → Stands (toZ w64 n *ℤ read z) (pos n *ℤ z) (highest * mostCurrent)
-  by z h l = mul (cast-to highest h tt) (back (exactly z l) tt)
+module _ (r x : ℕ) (re im : ℤ) (small-r : r ≤ mostImpedance) (small-x : x ≤ mostImpedance) (small-re : natAbs re ≤ mostCurrent) (small-im : natAbs im ≤ mostCurrent) where
+  by : {n : ℕ} (z : ℤ) → n ≤ mostImpedance → natAbs z ≤ mostCurrent → Stands (toZ w64 n *ℤ read z) (pos n *ℤ z) (mostImpedance * mostCurrent)
+  by z h l = mul (cast-to mostImpedance h tt) (back (exactly z l) tt)
 
   real : Stands (read (toZ w64 r *ℤ read re) -ℤ read (toZ w64 x *ℤ read im)) (pos r *ℤ re -ℤ pos x *ℤ im) mostProduct
   real = sub (back (by re small-r small-re) tt) (back (by im small-x small-im) tt)
@@ -86,9 +87,9 @@ module _ (r x : ℕ) (re im : ℤ) (small-r : r ≤ highest) (small-x : x ≤ hi
   unfolding dropIm
   im-most = scaled-most _ (imaginary .within)
 
-module _ (n : ℕ) (z : ℤ) (small-n : n ≤ highest) (small-z : natAbs z ≤ mostCurrent) where
+module _ (n : ℕ) (z : ℤ) (small-n : n ≤ mostImpedance) (small-z : natAbs z ≤ mostCurrent) where
   pub product-fits : SFits w64 (toZ w64 n *ℤ read z)
-  product-fits = fits (mul (cast-to highest small-n tt) (back (exactly z small-z) tt)) tt
+  product-fits = fits (mul (cast-to mostImpedance small-n tt) (back (exactly z small-z) tt)) tt
 
 pub drop-small : (d : ℤ) → natAbs d ≤ mostDrop → natAbs (read d) ≤ mostDrop
 drop-small d l = small (back (exactly d l) tt)

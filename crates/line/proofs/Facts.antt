@@ -6,19 +6,18 @@ use Prim.Native.Nat.{ℕ, suc, _≤_}
 use native.Mathlib.Nat.{zero-mul, mul-zero, add-zero}
 use lib.IntN.{ℤ, pos, negsuc, negℤ, _-ℤ_, _*ℤ_}
 use native.Mathlib.Omega.{arith}
-use borrow.Author.Tests.{lt-ltb, eq-eqb}
-use Rattle.common.specs.Choice.{choose}
-use Rattle.common.proofs.Cases.{yes}
+use borrow.Author.Tests.{lt-ltb}
 use Rattle.slots.specs.Slots.{slot, moduleKind, compensationCurrent, resistance, reactance}
 use Rattle.phasor.specs.declared.Phasors.{Phasors}
-use Rattle.phasor.specs.declared.Vector.{Vector}
 use Rattle.phasor.specs.declared.Vector.the-variants.{Is}
 use Rattle.root.specs.Roots.{rootOf, Root}
 use Rattle.root.proofs.Laws.{root-is, root-monotone}
-use Rattle.busbar.specs.declared.voltage.Value.{Value}
-use Rattle.busbar.specs.declared.voltage.Value.the-variants as value
+use Rattle.busbar_current.specs.declared.Value.{Value}
+use Rattle.busbar_current.specs.declared.Value.the-variants as value
+use Rattle.busbar_current.specs.Current.{pickedOf}
+use Rattle.line_current.specs.Pair.{currentOf}
 use Rattle.line.proofs.Made.{end-made}
-use Rattle.line.specs.Along.{pickedOf, scaledOf, dropRe, dropIm, remainsOf, squaresOf, magnitudeOf, farEndOf, alongOf}
+use Rattle.line.specs.Along.{scaledOf, dropRe, dropIm, remainsOf, squaresOf, magnitudeOf, farEndOf, alongOf}
 
 -- ---- U is what its sentence says
 
@@ -75,20 +74,9 @@ module _ (p q re im : ℤ) where
       (end-made (value.Is (pos (rootOf (squaresOf p q)))) s (Is p q) (Is re im) (Is p q) (omega (arith, a)) (omega (arith, b)) (rw (a, b) (sym no-impedance))
       refl)
 
--- ---- a current that slot 4 does not name is not needed
-
-module _ (s : List ℕ) (a b c : Vector) where
-  pub coupler-unneeded : slot s compensationCurrent ≡ 0 → pickedOf s a b ≡ pickedOf s a c
-  unfolding pickedOf
-  coupler-unneeded e = sym (yes _ _ _ _ (eq-eqb _ _ e) refl) ∙ yes _ _ _ _ (eq-eqb _ _ e) refl
-
-  pub bus-unneeded : slot s compensationCurrent ≡ 1 → pickedOf s a c ≡ pickedOf s b c
-  unfolding pickedOf choose
-  bus-unneeded e = rw e refl
-
 -- ---- U goes by the module, slot 4, R and X, and by no other slot: not by the ratings of 02, ticket 5
 
 pub by-its-slots : (s t : List ℕ) (p : Phasors) → slot s moduleKind ≡ slot t moduleKind → slot s compensationCurrent ≡ slot t compensationCurrent
     → slot s resistance ≡ slot t resistance → slot s reactance ≡ slot t reactance → alongOf s p ≡ alongOf t p
-unfolding alongOf farEndOf pickedOf
+unfolding alongOf farEndOf currentOf pickedOf
 by-its-slots s t p k c r x = rw (k, c, r, x)

@@ -1,110 +1,27 @@
--- The definitions that go by whether a pair is missing, as `search` follows them, and no part above its bound.
+-- The definitions that go by whether a pair is missing, as `search` follows them, and no part of what remains above its bound.
 -- Assumes nothing.
 use mathlib.Core.Path.{_≡_, refl, sym, ap, _∙_}
-use mathlib.Core.List.{List}
 use Prim.Native.Nat.{ℕ, _+_, _*_, _<_, _≤_, _^_}
 use native.Mathlib.Nat.{le-trans, lt-of-le-of-lt}
 use native.Mathlib.Omega.{arith}
 use borrow.Author.Needs.{needs}
-use lib.Dec.{eqb, lit≤, lit<}
-use lib.IntN.{ℤ, pos, natAbs, _+ℤ_, _-ℤ_}
+use lib.Dec.{lit≤, lit<}
+use lib.IntN.{ℤ, pos, natAbs, _-ℤ_}
 use mir.Syntax.{w64}
 use mir.Val.{SFits, toZ}
 use mir.Facts.{toZ-pos}
-use Rattle.common.proofs.Cases.{cases, chosen}
-use Rattle.common.proofs.Signed.{natAbs-add, natAbs-sub, Stands, exactly, small, fits, read, back, looser, add, sub}
-use Rattle.slots.specs.Slots.{slot, compensationCurrent}
+use Rattle.common.proofs.Signed.{natAbs-sub, Stands, exactly, fits, read, back, sub}
 use Rattle.phasor.specs.declared.Vector.{Vector}
 use Rattle.phasor.specs.declared.Vector.the-variants.{Missing, Is}
 use Rattle.phasor.specs.Pairs.{Within}
 use Rattle.root.specs.Roots.{rootOf, Root}
 use Rattle.root.proofs.Laws.{root-most}
-use Rattle.busbar.specs.declared.voltage.Value.{Value}
-use Rattle.busbar.specs.declared.voltage.Value.the-variants as value
-use Rattle.line.specs.Along.{highest, mostPart, mostCurrent, mostDrop, mostRemains, byParts, sumOf, differenceOf, pickedOf, dropRe, dropIm, remainsOf, squaresOf, magnitudeOf}
+use Rattle.busbar_current.specs.declared.Value.{Value}
+use Rattle.busbar_current.specs.declared.Value.the-variants as value
+use Rattle.busbar_current.specs.Current.{mostReading, mostCurrent}
+use Rattle.line_current.proofs.Parts.{within-re, within-im}
+use Rattle.line.specs.Along.{mostImpedance, mostDrop, mostRemains, dropRe, dropIm, remainsOf, squaresOf, magnitudeOf}
 use Rattle.line.proofs.Bounds.{re-most, im-most}
-
--- ---- a pair that is there
-
-module _ (n : ℕ) (v : Vector) (p q : ℤ) (is : v ≡ Is p q) (h : Within n v) where
-  pub within-re : natAbs p ≤ n
-  unfolding Within
-  within-re = (rw is at h) .0
-
-  pub within-im : natAbs q ≤ n
-  unfolding Within
-  within-im = (rw is at h) .1
-
-pub more : (n m : ℕ) (v : Vector) → n ≤ m → Within n v → Within m v
-unfolding Within
-more n m Missing l h = tt
-more n m (Is p q) l h = (le-trans (h .0) l, le-trans (h .1) l)
-
--- ---- two pairs, part by part
-
-module _ (r : Vector) (f : ℤ → ℤ → ℤ) (a b : Vector) where
-  pub first-missing : a ≡ Missing → r ≡ Missing → r ≡ byParts f a b
-  unfolding byParts
-  first-missing p q = rw p q
-
-  pub second-missing : (x y : ℤ) → a ≡ Is x y → b ≡ Missing → r ≡ Missing → r ≡ byParts f a b
-  unfolding byParts
-  second-missing x y p e q = rw (p, e) q
-
-module _ (a b : Vector) (p q x y : ℤ) (here : a ≡ Is p q) (there : b ≡ Is x y) (h : Within mostPart a) (k : Within mostPart b) where
-  one : (z : ℤ) → natAbs z ≤ mostPart → Stands (read z) z mostPart
-  one z l = back (exactly z l) tt
-
-  re-sum : Stands (read p +ℤ read x) (p +ℤ x) (mostPart + mostPart)
-  re-sum = add (one p (within-re mostPart a p q here h)) (one x (within-re mostPart b x y there k))
-
-  im-sum : Stands (read q +ℤ read y) (q +ℤ y) (mostPart + mostPart)
-  im-sum = add (one q (within-im mostPart a p q here h)) (one y (within-im mostPart b x y there k))
-
-  re-difference : Stands (read p -ℤ read x) (p -ℤ x) (mostPart + mostPart)
-  re-difference = sub (one p (within-re mostPart a p q here h)) (one x (within-re mostPart b x y there k))
-
-  im-difference : Stands (read q -ℤ read y) (q -ℤ y) (mostPart + mostPart)
-  im-difference = sub (one q (within-im mostPart a p q here h)) (one y (within-im mostPart b x y there k))
-
-  pub re-sum-fits : SFits w64 (read p +ℤ read x)
-  re-sum-fits = fits re-sum tt
-
-  pub im-sum-fits : SFits w64 (read q +ℤ read y)
-  im-sum-fits = fits im-sum tt
-
-  pub re-difference-fits : SFits w64 (read p -ℤ read x)
-  re-difference-fits = fits re-difference tt
-
-  pub im-difference-fits : SFits w64 (read q -ℤ read y)
-  im-difference-fits = fits im-difference tt
-
-  pub sum-made : Is (read (read p +ℤ read x)) (read (read q +ℤ read y)) ≡ sumOf a b
-  unfolding byParts
-  sum-made = rw (here, there) (cc (back re-sum tt .is, back im-sum tt .is))
-
-  pub difference-made : Is (read (read p -ℤ read x)) (read (read q -ℤ read y)) ≡ differenceOf a b
-  unfolding byParts
-  difference-made = rw (here, there) (cc (back re-difference tt .is, back im-difference tt .is))
-
-pub ruleset pairs =
-    (first-missing, second-missing, re-sum-fits, im-sum-fits, re-difference-fits, im-difference-fits, sum-made, difference-made, cases)
-
-byParts-le : (f : ℤ → ℤ → ℤ) → ((x y : ℤ) → natAbs (f x y) ≤ natAbs x + natAbs y) → (n : ℕ) (a b : Vector) → Within n a → Within n b → Within (n + n) (byParts f a b)
-unfolding byParts Within
-byParts-le f l n Missing b h k = tt
-byParts-le f l n (Is p q) Missing h k = tt
-byParts-le f l n (Is p q) (Is x y) h k = (omega (arith, l p x, h .0, k .0), omega (arith, l q y, h .1, k .1))
-
-pub picked-within : (r : Vector) (s : List ℕ) (bus coupler : Vector) → r ≡ pickedOf s bus coupler → Within mostPart bus → Within mostPart coupler
-    → Within mostCurrent r
-unfolding pickedOf
-picked-within r s bus coupler e b c =
-    rw e
-    (chosen (Within mostCurrent) (eqb (slot s compensationCurrent) 0) _ _ (λ p. more mostPart mostCurrent _ (lit≤ tt) b)
-    (λ p. chosen (Within mostCurrent) (eqb (slot s compensationCurrent) 1) _ _ (λ q. more mostPart mostCurrent _ (lit≤ tt) c)
-    (λ q. chosen (Within mostCurrent) (eqb (slot s compensationCurrent) 2) _ _ (λ o. byParts-le _-ℤ_ natAbs-sub mostPart _ _ b c)
-    (λ o. byParts-le _+ℤ_ natAbs-add mostPart _ _ b c))))
 
 -- ---- what remains
 
@@ -118,21 +35,21 @@ module _ (i : Vector) (re im : ℤ) (is : i ≡ Is re im) (h : Within mostCurren
   pub current-im : natAbs (read im) ≤ mostCurrent
   current-im = read-most mostCurrent im (lit≤ tt) (within-im mostCurrent i re im is h)
 
-module _ (u : Vector) (p q : ℤ) (is : u ≡ Is p q) (h : Within mostPart u) (d : ℤ) (l : natAbs d ≤ mostDrop) where
-  less : (z : ℤ) → natAbs z ≤ mostPart → Stands (read z -ℤ read d) (z -ℤ d) (mostPart + mostDrop)
+module _ (u : Vector) (p q : ℤ) (is : u ≡ Is p q) (h : Within mostReading u) (d : ℤ) (l : natAbs d ≤ mostDrop) where
+  less : (z : ℤ) → natAbs z ≤ mostReading → Stands (read z -ℤ read d) (z -ℤ d) (mostReading + mostDrop)
   less z k = sub (back (exactly z k) tt) (back (exactly d l) tt)
 
   pub less-re-fits : SFits w64 (read p -ℤ read d)
-  less-re-fits = fits (less p (within-re mostPart u p q is h)) tt
+  less-re-fits = fits (less p (within-re mostReading u p q is h)) tt
 
   pub less-im-fits : SFits w64 (read q -ℤ read d)
-  less-im-fits = fits (less q (within-im mostPart u p q is h)) tt
+  less-im-fits = fits (less q (within-im mostReading u p q is h)) tt
 
   less-re : read (read p -ℤ read d) ≡ p -ℤ d
-  less-re = back (less p (within-re mostPart u p q is h)) tt .is
+  less-re = back (less p (within-re mostReading u p q is h)) tt .is
 
   less-im : read (read q -ℤ read d) ≡ q -ℤ d
-  less-im = back (less q (within-im mostPart u p q is h)) tt .is
+  less-im = back (less q (within-im mostReading u p q is h)) tt .is
 
 module _ (v : Vector) (r x : ℕ) (u i : Vector) where
   pub u-missing : u ≡ Missing → v ≡ Missing → v ≡ remainsOf r x u i
@@ -143,7 +60,7 @@ module _ (v : Vector) (r x : ℕ) (u i : Vector) where
   unfolding remainsOf
   i-missing p q e f k = rw (e, f) k
 
-  pub remains-made : (p q re im d g : ℤ) → u ≡ Is p q → i ≡ Is re im → Within mostPart u → Within mostCurrent i → d ≡ dropRe r x (read re) (read im)
+  pub remains-made : (p q re im d g : ℤ) → u ≡ Is p q → i ≡ Is re im → Within mostReading u → Within mostCurrent i → d ≡ dropRe r x (read re) (read im)
       → natAbs d ≤ mostDrop → g ≡ dropIm r x (read re) (read im) → natAbs g ≤ mostDrop → v ≡ Is (read (read p -ℤ read d)) (read (read q -ℤ read g))
       → v ≡ remainsOf r x u i
   unfolding remainsOf
@@ -156,7 +73,7 @@ module _ (v : Vector) (r x : ℕ) (u i : Vector) where
 
 pub ruleset remaining = (current-re, current-im, less-re-fits, less-im-fits, u-missing, i-missing, remains-made, needs)
 
-remains-le : (r x : ℕ) (u i : Vector) → r ≤ highest → x ≤ highest → Within mostPart u → Within mostCurrent i → Within mostRemains (remainsOf r x u i)
+remains-le : (r x : ℕ) (u i : Vector) → r ≤ mostImpedance → x ≤ mostImpedance → Within mostReading u → Within mostCurrent i → Within mostRemains (remainsOf r x u i)
 unfolding remainsOf Within
 remains-le r x Missing i a b h k = tt
 remains-le r x (Is p q) Missing a b h k = tt
@@ -165,7 +82,7 @@ remains-le r x (Is p q) (Is re im) a b h k = (
   omega (arith, natAbs-sub q (dropIm r x re im), h .1, im-most r x re im a b (k .0) (k .1)),
 )
 
-pub remains-within : (v : Vector) (r x : ℕ) (u i : Vector) → v ≡ remainsOf r x u i → r ≤ highest → x ≤ highest → Within mostPart u → Within mostCurrent i
+pub remains-within : (v : Vector) (r x : ℕ) (u i : Vector) → v ≡ remainsOf r x u i → r ≤ mostImpedance → x ≤ mostImpedance → Within mostReading u → Within mostCurrent i
     → Within mostRemains v
 remains-within v r x u i e a b h k = rw e (remains-le r x u i a b h k)
 

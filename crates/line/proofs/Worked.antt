@@ -13,8 +13,8 @@ use Rattle.phasor.specs.declared.Vector.{Vector}
 use Rattle.phasor.specs.declared.Vector.the-variants.{Missing, Is}
 use Rattle.root.specs.Roots.{rootOf}
 use Rattle.root.proofs.Laws.{root-from, root-by}
-use Rattle.busbar.specs.declared.voltage.Value.{Value}
-use Rattle.busbar.specs.declared.voltage.Value.the-variants as value
+use Rattle.busbar_current.specs.declared.Value.{Value}
+use Rattle.busbar_current.specs.declared.Value.the-variants as value
 use Rattle.line.specs.Along.{squaresOf, magnitudeOf}
 use Rattle.line.specs.Stars.{Star, star, stars, remaining, expectedRemains, stars-remain, found, expected}
 

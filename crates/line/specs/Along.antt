@@ -1,13 +1,11 @@
 -- The voltage U along the line's impedance (02, ticket 3). Definitions only.
 use Prim.Native.Nat.{ℕ, _+_, _*_}
-use mathlib.Core.Bool.{Bool, _&&_}
 use mathlib.Core.List.{List}
-use lib.Dec.{eqb, leb}
+use lib.Dec.{leb}
 use lib.IntN.{ℤ, pos, natAbs, _+ℤ_, _-ℤ_, _*ℤ_}
 use lib.Signed.{quotZ}
 use Rattle.common.specs.Choice.{choose}
-use Rattle.slots.specs.Slots.{slot, moduleKind, compensationCurrent, resistance, reactance}
-use Rattle.measure.specs.declared.Channel.{Channel}
+use Rattle.slots.specs.Slots.{slot, resistance, reactance}
 use Rattle.measure.specs.declared.Channel.the-variants.{Voltage}
 use Rattle.measure.specs.Readings.{limitOf}
 use Rattle.phasor.specs.declared.Phasors.{Phasors}
@@ -15,21 +13,13 @@ use Rattle.phasor.specs.declared.Vector.{Vector}
 use Rattle.phasor.specs.declared.Vector.the-variants.{Missing, Is}
 use Rattle.phasor.specs.Pairs.{vectorOf}
 use Rattle.root.specs.Roots.{rootOf}
-use Rattle.input.specs.Brought.{currentOf}
-use Rattle.busbar.specs.declared.voltage.Value.{Value}
-use Rattle.busbar.specs.declared.voltage.Value.the-variants as value
+use Rattle.busbar_current.specs.declared.Value.{Value}
+use Rattle.busbar_current.specs.declared.Value.the-variants as value
+use Rattle.line_current.specs.Pair.{currentOf}
 
 -- R and X: "0–400,000 with 1 A", and with 5 A less; no taken sheet has more
-abbrev pub highest : ℕ
-highest = 400000
-
--- 200 V, or 200 A of a 5 A module: no part is above it
-abbrev pub mostPart : ℕ
-mostPart = 200000
-
--- nor any part of a current that is the sum of two, above this
-abbrev pub mostCurrent : ℕ
-mostCurrent = 400000
+abbrev pub mostImpedance : ℕ
+mostImpedance = 400000
 
 -- the products of a drop's part together, in µV
 abbrev pub mostProduct : ℕ
@@ -41,26 +31,6 @@ mostDrop = 554256320
 
 abbrev pub mostRemains : ℕ
 mostRemains = 554456320
-
--- of two pairs, each of which is needed, "part by part"
-unfoldable pub byParts : (ℤ → ℤ → ℤ) → Vector → Vector → Vector
-byParts f Missing b = Missing
-byParts f (Is p q) Missing = Missing
-byParts f (Is p q) (Is x y) = Is (f p x) (f q y)
-
-abbrev pub sumOf : Vector → Vector → Vector
-sumOf a b = byParts _+ℤ_ a b
-
-abbrev pub differenceOf : Vector → Vector → Vector
-differenceOf a b = byParts _-ℤ_ a b
-
--- "The current is picked by slot 4, part by part": 0 bus, 1 coupler, 2 bus − coupler, 3 bus + coupler, as in 01
-unfoldable pub pickedOf : List ℕ → Vector → Vector → Vector
-pickedOf s bus coupler =
-    choose (eqb (slot s compensationCurrent) 0) bus
-    (choose (eqb (slot s compensationCurrent) 1) coupler
-    (choose (eqb (slot s compensationCurrent) 2) (differenceOf bus coupler)
-    (sumOf bus coupler)))
 
 -- "times 1,732,051, divided once by 1,000,000,000, toward zero"
 unfoldable pub scaledOf : ℤ → ℤ
@@ -91,16 +61,10 @@ magnitudeOf (Is re im) = value.Is (pos (rootOf (squaresOf re im)))
 -- an impedance that no taken sheet has is missing
 unfoldable pub farEndOf : List ℕ → Vector → Vector → Value
 farEndOf s u i =
-    choose (leb (slot s resistance) highest)
-    (choose (leb (slot s reactance) highest) (magnitudeOf (remainsOf (slot s resistance) (slot s reactance) u i)) value.Missing)
+    choose (leb (slot s resistance) mostImpedance)
+    (choose (leb (slot s reactance) mostImpedance) (magnitudeOf (remainsOf (slot s resistance) (slot s reactance) u i)) value.Missing)
     value.Missing
-
--- the current's channel, by the module of slot 1
-abbrev pub amperes : List ℕ → Channel
-amperes s = currentOf (eqb (slot s moduleKind) 1)
 
 -- "U is missing if a needed part is missing or Held": U_AB's pair and those of the currents that slot 4 names are needed
 unfoldable pub alongOf : List ℕ → Phasors → Value
-alongOf s p =
-    farEndOf s (vectorOf (limitOf Voltage) (p .«u_ab»))
-    (pickedOf s (vectorOf (limitOf (amperes s)) (p .«i_bus»)) (vectorOf (limitOf (amperes s)) (p .«i_coupler»)))
+alongOf s p = farEndOf s (vectorOf (limitOf Voltage) (p .«u_ab»)) (currentOf s p)

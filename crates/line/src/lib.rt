@@ -3,71 +3,18 @@ ghost use mathlib.Core.Path.{_≡_};
 ghost use Prim.Native.Nat.{_≤_, _^_};
 ghost use lib.IntN.{natAbs};
 ghost use Rattle.phasor.specs.Pairs.{Within};
-ghost use Rattle.line.specs.Along.{highest, mostPart, mostCurrent, mostProduct, mostDrop, mostRemains, sumOf, differenceOf, pickedOf, scaledOf, dropRe, dropIm, remainsOf, squaresOf, magnitudeOf, farEndOf, alongOf};
-use busbar::voltage::Value;
+ghost use Rattle.busbar_current.specs.Current.{mostReading, mostCurrent};
+ghost use Rattle.line.specs.Along.{mostImpedance, mostProduct, mostDrop, mostRemains, scaledOf, dropRe, dropIm, remainsOf, squaresOf, magnitudeOf, farEndOf, alongOf};
+use busbar_current::Value;
 use measure::Channel;
 use phasor::Phasors;
 use phasor::Vector;
-use slots::COMPENSATION_CURRENT;
-use slots::MODULE;
 use slots::REACTANCE;
 use slots::RESISTANCE;
 use slots::SLOTS;
 
 // 400 Ω: no sheet that is taken has more.
-const HIGHEST: u32 = 400_000;
-
-// The sum of two pairs, part by part, missing if either is.
-fn sum(a: Vector, b: Vector) -> Vector
-    requires { ⌜ Within mostPart a × Within mostPart b ⌝ }
-    ensures { λ r. ⌜ r ≡ sumOf a b ⌝ }
-{
-    match a {
-        Vector::Missing => Vector::Missing,
-        Vector::Is { re: p, im: q } => match b {
-            Vector::Missing => Vector::Missing,
-            Vector::Is { re: x, im: y } => Vector::Is {
-                re: p + x,
-                im: q + y,
-            },
-        },
-    }
-}
-
-// The difference of two pairs, part by part, missing if either is.
-fn difference(a: Vector, b: Vector) -> Vector
-    requires { ⌜ Within mostPart a × Within mostPart b ⌝ }
-    ensures { λ r. ⌜ r ≡ differenceOf a b ⌝ }
-{
-    match a {
-        Vector::Missing => Vector::Missing,
-        Vector::Is { re: p, im: q } => match b {
-            Vector::Missing => Vector::Missing,
-            Vector::Is { re: x, im: y } => Vector::Is {
-                re: p - x,
-                im: q - y,
-            },
-        },
-    }
-}
-
-// The current that slot 4 picks; only the pairs that it names are needed.
-fn current(s: &[u32; SLOTS], bus: Vector, coupler: Vector) -> Vector
-    requires { ⌜ Within mostPart bus × Within mostPart coupler ⌝ }
-    ensures { λ r. ⌜ r ≡ pickedOf (now (s .entry)) bus coupler ⌝ }
-{
-    if s[COMPENSATION_CURRENT] == 0 {
-        return bus;
-    }
-    if s[COMPENSATION_CURRENT] == 1 {
-        return coupler;
-    }
-    if s[COMPENSATION_CURRENT] == 2 {
-        difference(bus, coupler)
-    } else {
-        sum(bus, coupler)
-    }
-}
+const MOST_IMPEDANCE: u32 = 400_000;
 
 // A drop in mV by a product in µV: √3 times as much, rounded toward zero.
 fn scaled(product: i64) -> i64
@@ -79,7 +26,7 @@ fn scaled(product: i64) -> i64
 
 // The drop's real part.
 fn drop_re(r: u32, x: u32, re: i64, im: i64) -> i64
-    requires { ⌜ (r ≤ highest) × (x ≤ highest) × (natAbs re ≤ mostCurrent) × (natAbs im ≤ mostCurrent) ⌝ }
+    requires { ⌜ (r ≤ mostImpedance) × (x ≤ mostImpedance) × (natAbs re ≤ mostCurrent) × (natAbs im ≤ mostCurrent) ⌝ }
     ensures { λ d. ⌜ (d ≡ dropRe r x re im) × (natAbs d ≤ mostDrop) ⌝ }
 {
     scaled((r as i64) * re - (x as i64) * im)
@@ -87,7 +34,7 @@ fn drop_re(r: u32, x: u32, re: i64, im: i64) -> i64
 
 // The drop's imaginary part.
 fn drop_im(r: u32, x: u32, re: i64, im: i64) -> i64
-    requires { ⌜ (r ≤ highest) × (x ≤ highest) × (natAbs re ≤ mostCurrent) × (natAbs im ≤ mostCurrent) ⌝ }
+    requires { ⌜ (r ≤ mostImpedance) × (x ≤ mostImpedance) × (natAbs re ≤ mostCurrent) × (natAbs im ≤ mostCurrent) ⌝ }
     ensures { λ d. ⌜ (d ≡ dropIm r x re im) × (natAbs d ≤ mostDrop) ⌝ }
 {
     scaled((r as i64) * im + (x as i64) * re)
@@ -103,7 +50,7 @@ fn squares(re: i64, im: i64) -> u64
 
 // What remains of U_AB behind the drop, missing if either pair is.
 fn remains(r: u32, x: u32, u: Vector, i: Vector) -> Vector
-    requires { ⌜ (r ≤ highest) × (x ≤ highest) × Within mostPart u × Within mostCurrent i ⌝ }
+    requires { ⌜ (r ≤ mostImpedance) × (x ≤ mostImpedance) × Within mostReading u × Within mostCurrent i ⌝ }
     ensures { λ v. ⌜ v ≡ remainsOf r x u i ⌝ }
 {
     match u {
@@ -131,13 +78,13 @@ fn magnitude(v: Vector) -> Value
 
 // U by the pairs as they count. An impedance above what a sheet can hold is missing.
 fn far_end(s: &[u32; SLOTS], u: Vector, i: Vector) -> Value
-    requires { ⌜ Within mostPart u × Within mostCurrent i ⌝ }
+    requires { ⌜ Within mostReading u × Within mostCurrent i ⌝ }
     ensures { λ r. ⌜ r ≡ farEndOf (now (s .entry)) u i ⌝ }
 {
     let r = s[RESISTANCE];
     let x = s[REACTANCE];
-    if r <= HIGHEST {
-        if x <= HIGHEST {
+    if r <= MOST_IMPEDANCE {
+        if x <= MOST_IMPEDANCE {
             return magnitude(remains(r, x, u, i));
         }
     }
@@ -148,13 +95,8 @@ fn far_end(s: &[u32; SLOTS], u: Vector, i: Vector) -> Value
 pub fn voltage(s: &[u32; SLOTS], p: Phasors) -> Value
     ensures { λ r. ⌜ r ≡ alongOf (now (s .entry)) p ⌝ }
 {
-    let amperes = input::current_channel(s[MODULE] == 1);
     let a = p.u_ab;
-    let b = p.i_bus;
-    let c = p.i_coupler;
     let u = phasor::measure_pair(Channel::Voltage, a);
-    let bus = phasor::measure_pair(amperes, b);
-    let coupler = phasor::measure_pair(amperes, c);
-    let i = current(s, bus, coupler);
+    let i = line_current::current(s, p);
     far_end(s, u, i)
 }

@@ -18,8 +18,8 @@ use lib.Ieee.Back.{round-whole}
 use lib.Ieee.Scale.{finite}
 use lib.Ieee.Positive.{num, den, den-pos}
 use Rattle.measure.specs.Exact.{counts, inRange, nearest, thousandths}
-use Rattle.measure.specs.Readings.{limitOf, ifInRange, convertedOf, goodOf, heldOf, measuredOf, AtMost}
-use Rattle.measure.specs.Fronts.{minusOf, exponentOf, numberFraction}
+use Rattle.measure.specs.Readings.{mostVolts, limitOf, ifInRange, convertedOf, goodOf, heldOf, measuredOf, AtMost}
+use Rattle.measure.specs.Fields.{minusOf, exponentOf, numberFraction}
 use Rattle.measure.specs.declared.Measured.{Measured}
 use Rattle.measure.specs.declared.Channel.{Channel}
 use Rattle.measure.specs.declared.Channel.the-variants.{Voltage, Current1A, Current5A}
@@ -81,14 +81,14 @@ units-le (suc k) t l h = mul-le-mul {n₂ = 2 ^ 24} {m₂ = 2 ^ 114} (omega arit
 small : (x t n d : ℕ) → t < 0x80_0000 → x < 116 → n * 2 ^ 149 ≡ units x t * d → n * 2048 ≤ d
 small x t n d l h e = cancel n d 2048 (units x t) (2 ^ 138) (pow-pos 138) e (units-le x t l h)
 
-top : (k t n d : ℕ) → 0 < d → n ≤ 200 * d → n * 2 ^ 149 ≡ (0x80_0000 + t) * 2 ^ k * d → k < 134
+top : (k t n d : ℕ) → 0 < d → n ≤ mostVolts * d → n * 2 ^ 149 ≡ (0x80_0000 + t) * 2 ^ k * d → k < 134
 top k t n d D h e =
     lt-of-not-le (λ (g : 134 ≤ k).
     let lo : 2 ^ 23 * 2 ^ 134 ≤ (0x80_0000 + t) * 2 ^ k = mul-le-mul {n₁ = 2 ^ 23} {m₁ = 2 ^ 134} (omega arith) (pow-mono g) in
-    let hi : (0x80_0000 + t) * 2 ^ k ≤ 200 * 2 ^ 149 = le-of-mul-le-mul-right (le-trans (le-of-eq (sym e)) (le-trans (mul-le-mul-right (2 ^ 149) h) (le-of-eq (mul-right-comm 200 d (2 ^ 149))))) D in
-    absurd (le→leb (2 ^ 23 * 2 ^ 134) (200 * 2 ^ 149) (le-trans lo hi)))
+    let hi : (0x80_0000 + t) * 2 ^ k ≤ mostVolts * 2 ^ 149 = le-of-mul-le-mul-right (le-trans (le-of-eq (sym e)) (le-trans (mul-le-mul-right (2 ^ 149) h) (le-of-eq (mul-right-comm mostVolts d (2 ^ 149))))) D in
+    absurd (le→leb (2 ^ 23 * 2 ^ 134) (mostVolts * 2 ^ 149) (le-trans lo hi)))
 
-large : (x t n d : ℕ) → 0 < d → 116 ≤ x → n ≤ 200 * d → n * 2 ^ 149 ≡ units x t * d → (x ≤ 134) × (n * 2 ^ (150 - x) ≡ (0x80_0000 + t) * d)
+large : (x t n d : ℕ) → 0 < d → 116 ≤ x → n ≤ mostVolts * d → n * 2 ^ 149 ≡ units x t * d → (x ≤ 134) × (n * 2 ^ (150 - x) ≡ (0x80_0000 + t) * d)
 large zero t n d D h g e = absurd (le→leb 116 0 h)
 large (suc k) t n d D h g e =
     let l : k < 134 = top k t n d D g e in
@@ -115,15 +115,15 @@ no-nan (fin s m e) h = tt
 
 pub record Parts (n d b : ℕ) : Type 0 where
   pub over : 0 < d
-  pub upper : n ≤ 200 * d
+  pub upper : n ≤ mostVolts * d
   pub below : exponent b < 116 → n * 2048 ≤ d
   pub above : 116 ≤ exponent b → (exponent b ≤ 134) × (n * 2 ^ (150 - exponent b) ≡ (b % 0x80_0000 + 0x80_0000) * d)
 
-pub parts : (x : Float) → T (fits binary32 x) → T (inRange 200 x) → Parts (num x) (den x) (toBits binary32 x)
+pub parts : (x : Float) → T (fits binary32 x) → T (inRange mostVolts x) → Parts (num x) (den x) (toBits binary32 x)
 parts x fit h =
     let b = toBits binary32 x in
-    let v = value x fit (counts-finite x (and-l (counts x) (leb (num x) (200 * den x)) h)) in
-    let u : num x ≤ 200 * den x = leb→le (num x) (200 * den x) (and-r (counts x) (leb (num x) (200 * den x)) h) in
+    let v = value x fit (counts-finite x (and-l (counts x) (leb (num x) (mostVolts * den x)) h)) in
+    let u : num x ≤ mostVolts * den x = leb→le (num x) (mostVolts * den x) (and-r (counts x) (leb (num x) (mostVolts * den x)) h) in
     record {
       over = den-pos x;
       upper = u;
@@ -184,21 +184,21 @@ range-is n (fin false m e) (fin false n' d) v =
     (against (m * up e) (n' * up d) (down d) n (down e) (down-pos d) (v .1))
 
 -- with the code's 0.0, and its limit as a float
-pub decided : (n : ℕ) (x : Float) (p q : Bool) → n ≤ 200 → le (ofBits binary32 0) x ≡ p → le x (ofInt binary32 (pos n)) ≡ q → inRange n x ≡ (p && q)
+pub decided : (n : ℕ) (x : Float) (p q : Bool) → n ≤ mostVolts → le (ofBits binary32 0) x ≡ p → le x (ofInt binary32 (pos n)) ≡ q → inRange n x ≡ (p && q)
 unfolding ofBits ofInt
 decided n x p q h e f = sym (range-is n x (ofInt binary32 (pos n)) (round-whole binary32 false n (le-trans h (lit≤ tt)))) ∙ ap (λ (t : Bool). t && le x (ofInt binary32 (pos n))) e ∙ ap (λ (t : Bool). p && t) f
 
-pub wider : (n : ℕ) (x : Float) → n ≤ 200 → T (inRange n x) → T (inRange 200 x)
+pub wider : (n : ℕ) (x : Float) → n ≤ mostVolts → T (inRange n x) → T (inRange mostVolts x)
 wider n x h t =
-    and-i (counts x) (leb (num x) (200 * den x)) (and-l (counts x) (leb (num x) (n * den x)) t)
-    (le→leb (num x) (200 * den x) (le-trans (leb→le (num x) (n * den x) (and-r (counts x) (leb (num x) (n * den x)) t)) (mul-le-mul-right (den x) h)))
+    and-i (counts x) (leb (num x) (mostVolts * den x)) (and-l (counts x) (leb (num x) (n * den x)) t)
+    (le→leb (num x) (mostVolts * den x) (le-trans (leb→le (num x) (n * den x) (and-r (counts x) (leb (num x) (n * den x)) t)) (mul-le-mul-right (den x) h)))
 
 -- the outcomes of the two comparisons, as the code has them, with its limit n
 module _ (c : Channel) (x : Float) (n : ℕ) (is : n ≡ limitOf c) (above : Bool) (first : le (ofBits binary32 0) x ≡ above) where
-  limit-le : n ≤ 200
+  limit-le : n ≤ mostVolts
   limit-le = rw is (go c)
     where
-      go : (c : Channel) → limitOf c ≤ 200
+      go : (c : Channel) → limitOf c ≤ mostVolts
       go Voltage = lit≤ tt
       go Current1A = lit≤ tt
       go Current5A = lit≤ tt
@@ -206,7 +206,7 @@ module _ (c : Channel) (x : Float) (n : ℕ) (is : n ≡ limitOf c) (above : Boo
   outcome : (below : Bool) → le x (ofInt binary32 (pos n)) ≡ below → inRange n x ≡ (above && below)
   outcome below second = decided n x above below limit-le first second
 
-  pub taken : above ≡ true → le x (ofInt binary32 (pos n)) ≡ true → T (inRange 200 x)
+  pub taken : above ≡ true → le x (ofInt binary32 (pos n)) ≡ true → T (inRange mostVolts x)
   taken a second = wider n x limit-le (subst T (sym (outcome true second ∙ ap (λ (b : Bool). b && true) a)) tt)
 
   pub converted-whole : (t : ℕ) → above ≡ true → le x (ofInt binary32 (pos n)) ≡ true → t ≡ thousandths x → Whole t ≡ convertedOf (limitOf c) x

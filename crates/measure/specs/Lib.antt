@@ -1,5 +1,4 @@
 pub mod Exact
-pub mod Fronts
+pub mod Fields
 pub mod Readings
 pub mod Stars
-pub mod Steps

@@ -1,7 +1,7 @@
 -- What a reading counts as (01, 'What a tick brings'). Definitions only.
-use Prim.Native.Nat.{ℕ, _≤_}
+use Prim.Native.Nat.{ℕ, _*_, _≤_}
 use mathlib.Core.Bool.{Bool, true, false}
-use lib.Ieee.{Float}
+use lib.Ieee.{Float, binary32, ofBits}
 use Rattle.measure.specs.declared.Channel.{Channel}
 use Rattle.measure.specs.declared.Channel.the-variants.{Voltage, Current1A, Current5A}
 use Rattle.measure.specs.declared.Converted.{Converted}
@@ -13,10 +13,16 @@ use Rattle.measure.specs.declared.Reading.the-variants.{Good, Held, Inva
 use Rattle.measure.specs.Exact.{inRange, thousandths}
 
 -- "200 V or 40 × k A", where k is 1 for a 1 A module and 5 for a 5 A one
+abbrev pub mostVolts : ℕ
+mostVolts = 200
+
+abbrev pub mostAmperes : ℕ
+mostAmperes = 40
+
 abbrev pub limitOf : Channel → ℕ
-limitOf Voltage = 200
-limitOf Current1A = 40
-limitOf Current5A = 200
+limitOf Voltage = mostVolts
+limitOf Current1A = mostAmperes
+limitOf Current5A = 5 * mostAmperes
 
 abbrev pub ifInRange : Bool → ℕ → Converted
 ifInRange true n = Whole n
@@ -39,6 +45,12 @@ unfoldable pub measuredOf : ℕ → Reading → Measured
 measuredOf limit (Good x) = goodOf (convertedOf limit x)
 measuredOf limit (Held x) = heldOf (convertedOf limit x)
 measuredOf limit Invalid = measured.Missing
+
+-- the number of a reading, and 0 of an Invalid one
+unfoldable pub numberOf : Reading → Float
+numberOf (Good x) = x
+numberOf (Held x) = x
+numberOf Invalid = ofBits binary32 0
 
 -- a measured number is not above n
 unfoldable pub AtMost : ℕ → Measured → Type 0

@@ -1,13 +1,8 @@
-// One measured reading as the nearest whole thousandth (mV, mA), by its exact value.
+// A reading, what it counts as, and the nearest whole thousandth (mV, mA) of its number, by its exact value.
 ghost use mathlib.Core.Path.{_≡_};
-ghost use Prim.Native.Nat.{_*_};
 ghost use lib.Dec.{T};
 ghost use Rattle.measure.specs.Exact.{inRange, thousandths};
-ghost use Rattle.measure.specs.Readings.{limitOf, convertedOf, measuredOf, AtMost};
-ghost use Rattle.measure.specs.Steps.{numberOf, withQuality, countedOf};
-use crate::front::Quality;
-
-pub mod front;
+ghost use Rattle.measure.specs.Readings.{mostVolts, limitOf, convertedOf};
 
 // What the module hands over: a number in V or A, fresh or held from before, or nothing.
 pub enum Reading {
@@ -36,14 +31,19 @@ pub enum Converted {
     Whole(u32),
 }
 
+const MOST_VOLTS: u16 = 200;
+
+// Of a 1 A module; a 5 A one has five times as much.
+const MOST_AMPERES: u16 = 40;
+
 // The upper end of the range, in V or A.
 pub fn limit(c: Channel) -> u16
     ensures { λ r. ⌜ r ≡ limitOf c ⌝ }
 {
     match c {
-        Channel::Voltage => 200,
-        Channel::Current1A => 40,
-        Channel::Current5A => 200,
+        Channel::Voltage => MOST_VOLTS,
+        Channel::Current1A => MOST_AMPERES,
+        Channel::Current5A => 5 * MOST_AMPERES,
     }
 }
 
@@ -51,7 +51,7 @@ pub fn limit(c: Channel) -> u16
 // digits / 2^(150 - exponent); where the exponent is below 116, x is below 2^-11, which is less than half a thousandth, a
 // subnormal number among them, and gives 0.
 fn whole_thousandths(x: f32) -> u32
-    requires { ⌜ T (inRange 200 x) ⌝ }
+    requires { ⌜ T (inRange mostVolts x) ⌝ }
     ensures { λ r. ⌜ r ≡ thousandths x ⌝ }
 {
     let bits: u32 = f32::to_bits(x);
@@ -76,49 +76,4 @@ pub fn convert(c: Channel, x: f32) -> Converted
         }
     }
     Converted::OutOfRange
-}
-
-// A counted number with the quality that it was handed over with.
-fn with_quality(quality: Quality, n: u32) -> Measured
-    ensures { λ r. ⌜ r ≡ withQuality quality n ⌝ }
-{
-    match quality {
-        Quality::Good => Measured::Good(n),
-        Quality::Held => Measured::Held(n),
-        Quality::Invalid => Measured::Missing,
-    }
-}
-
-// What a converted number counts as.
-fn counted(quality: Quality, a: Converted) -> Measured
-    ensures { λ r. ⌜ r ≡ countedOf quality a ⌝ }
-{
-    match a {
-        Converted::OutOfRange => Measured::Missing,
-        Converted::Whole(n) => with_quality(quality, n),
-    }
-}
-
-// The number of a reading; 0 where it has none.
-fn number_of(r: Reading) -> f32
-    ensures { λ x. ⌜ x ≡ numberOf r ⌝ }
-{
-    match r {
-        Reading::Good(x) => x,
-        Reading::Held(x) => x,
-        Reading::Invalid => 0.0,
-    }
-}
-
-// What a reading counts as; its number is never above the channel's limit. Its front comes first, and its fraction only if that passes.
-pub fn measure(c: Channel, r: Reading) -> Measured
-    ensures each { λ m. ⌜ m ≡ measuredOf (limitOf c) r ⌝ }
-    ensures within { λ m. ⌜ AtMost (1000 * limitOf c) m ⌝ }
-{
-    let f = front::front_of(r);
-    if front::passes(c, f) {
-        let quality = f.quality;
-        return counted(quality, convert(c, number_of(r)));
-    }
-    Measured::Missing
 }

@@ -1,4 +1,3 @@
 pub mod Organs
-pub mod Limits
 pub mod Runs
 pub mod Stars

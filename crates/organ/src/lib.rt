@@ -1,7 +1,6 @@
 // The organs of rule 5: each keeps a mark and a count, and trips. One function steps an organ over a tick, one loop steps all seven.
 ghost use mathlib.Core.Path.{_≡_};
 ghost use Rattle.organ.specs.Organs.{overOf, underOf, markOf, countOf, steppedOf, allSteppedOf};
-ghost use Rattle.organ.specs.Limits.{organWithin, organsWithin};
 
 // What an organ keeps from tick to tick: its mark, and its count, the marked ticks in a row, held at the delay.
 pub struct Organ {
@@ -120,25 +119,4 @@ pub fn organs_step(organs: [Organ; 7], xs: [OrganInput; 7]) -> Organs
         organs: next,
         trips: trips,
     }
-}
-
-// Whether an organ is within a record's limits: a count of at most its delay, and of 0 if it is not marked.
-fn organ_within(o: Organ, delay: u32) -> bool
-    ensures { λ r. ⌜ r ≡ organWithin delay o ⌝ }
-{
-    (o.count <= delay) & (o.marked | (o.count == 0))
-}
-
-// Whether all seven are.
-pub fn organs_within(organs: [Organ; 7], delays: [u32; 7]) -> bool
-    ensures { λ r. ⌜ r ≡ organsWithin delays organs ⌝ }
-{
-    let mut i: usize = 0;
-    while i < 7 {
-        if !organ_within(organs[i], delays[i]) {
-            return false;
-        }
-        i += 1;
-    }
-    true
 }

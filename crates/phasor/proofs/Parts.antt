@@ -9,19 +9,19 @@ use borrow.Author.Needs.{needs}
 use lib.Dec.{T, leb, eqb, lit<}
 use lib.IntN.{ℤ}
 use lib.Ieee.{Float, nan, inf, fin, binary32, up, down, odd, ofFields, toBits, fits, neg}
-use Rattle.measure.proofs.FirstStep.{is-missing}
-use Rattle.measure.proofs.Fronts.{minus-nan, minus-inf, minus-fin}
+use Rattle.measure_front.proofs.FirstStep.{is-missing}
+use Rattle.measure_front.proofs.Fronts.{minus-nan, minus-inf, minus-fin}
 use Rattle.measure.specs.Exact.{inRange, thousandths}
 use Rattle.measure.specs.Readings as readings
-use Rattle.measure.specs.Readings.{goodOf, measuredOf, convertedOf}
-use Rattle.measure.specs.Fronts.{handed, readingOf, EveryFractionMissing, minusOf, numberFraction, numberFront, frontOf, fractionOf}
-use Rattle.measure.specs.Steps.{numberOf}
+use Rattle.measure.specs.Readings.{goodOf, measuredOf, convertedOf, numberOf}
+use Rattle.measure.specs.Fields.{minusOf, numberFraction}
+use Rattle.measure_front.specs.Fronts.{handed, readingOf, EveryFractionMissing, numberFront, frontOf, fractionOf}
 use Rattle.measure.specs.declared.Converted.{Converted}
 use Rattle.measure.specs.declared.Measured.the-variants as measured
 use Rattle.measure.specs.declared.Reading.the-variants.{Good}
-use Rattle.measure.specs.declared.front.Front.{Front}
-use Rattle.measure.specs.declared.front.Quality.{Quality}
-use Rattle.measure.specs.declared.front.Quality.the-variants as quality
+use Rattle.measure_front.specs.declared.Front.{Front}
+use Rattle.measure_front.specs.declared.Quality.{Quality}
+use Rattle.measure_front.specs.declared.Quality.the-variants as quality
 use Rattle.phasor.specs.Pairs.{partInRange, withSign, minus, signedThousandths, ifInRange, partOf}
 use Rattle.phasor.specs.Parts.{EveryFractionOut, PartPasses, magnitudeOf, signedOf}
 use Rattle.phasor.specs.declared.Part.{Part}

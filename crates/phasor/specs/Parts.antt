@@ -4,7 +4,7 @@ use mathlib.Core.Path.{_≡_}
 use mathlib.Core.Bool.{Bool, true, false}
 use mathlib.Core.Logic.{_↔_}
 use lib.Ieee.{Float, binary32, ofFields, neg}
-use Rattle.measure.specs.Fronts.{fractions}
+use Rattle.measure.specs.Fields.{fractions}
 use Rattle.measure.specs.declared.Converted.{Converted}
 use Rattle.measure.specs.declared.Converted.the-variants as converted
 use Rattle.phasor.specs.Pairs.{withSign, partOf}

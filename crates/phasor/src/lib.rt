@@ -9,9 +9,8 @@ ghost use Rattle.phasor.specs.Parts.{PartPasses, magnitudeOf, signedOf};
 use measure::Channel;
 use measure::Converted;
 use measure::Reading;
-use measure::front;
-use measure::front::Front;
-use measure::front::Quality;
+use measure_front::Front;
+use measure_front::Quality;
 
 // What the module hands over: the two parts, in V or A.
 pub struct Phasor {
@@ -94,7 +93,7 @@ fn magnitude(negative: bool, x: f32) -> f32
 fn part_passes(c: Channel, exponent: u8) -> bool
     ensures { λ r. ⌜ PartPasses (limitOf c) exponent r ⌝ }
 {
-    front::passes(
+    measure_front::passes(
         c,
         Front {
             quality: Quality::Good,
@@ -108,7 +107,7 @@ fn part_passes(c: Channel, exponent: u8) -> bool
 fn measure_part(c: Channel, x: f32) -> Part
     ensures { λ r. ⌜ r ≡ partOf (limitOf c) x ⌝ }
 {
-    let f = front::front_of(Reading::Good(x));
+    let f = measure_front::front_of(Reading::Good(x));
     if part_passes(c, f.exponent) {
         return signed(f.minus, measure::convert(c, magnitude(f.minus, x)));
     }

@@ -11,6 +11,7 @@ use lib.Dec.{leb, eqb}
 use Rattle.common.specs.Choice.{choose}
 use Rattle.common.proofs.Cases.{chosen}
 use Rattle.slots.specs.Slots.{slot, t4, t5, t8, isContinuous}
+use Rattle.sheet_ranges.specs.Table.{mostTicks}
 use Rattle.sheet.specs.Sheet.{passesOf}
 use Rattle.common.proofs.Joined.{split, and-five, and-false, or-true}
 use Rattle.sheet.proofs.Laws.{t1-range, t2-range, t3-range, t4-range, t5-range}
@@ -32,15 +33,16 @@ use Rattle.command.specs.declared.Decided.{Decided}
 use Rattle.command.specs.declared.Situation.{Situation}
 use Rattle.command.specs.declared.Wait.{Wait}
 use Rattle.command.specs.declared.Wait.the-variants.{Idle, For}
+use Rattle.command.specs.Idling.{longestWait}
 use Rattle.command_automatic.specs.Automatic.{delayOf}
 use Rattle.command_deciding.proofs.Sound.{Sound}
-use Rattle.record.specs.Limits.{ticksOf, delaysOf, kindWithin, motionWithin, pressWithin}
-use Rattle.record.proofs.OfKind.{held-kind, kind-long, contact-kind}
-use Rattle.acting_accounting.specs.Accounting.{oneMoreOf, operationsOf}
+use Rattle.record_limits.specs.Limits.{ticksOf, delaysOf, kindWithin, motionWithin, pressWithin}
+use Rattle.record_limits.proofs.OfKind.{held-kind, kind-long, contact-kind}
+use Rattle.acting_accounting.specs.Accounting.{mostOperations, oneMoreOf, operationsOf}
 use Rattle.acting_commanding.specs.Commanding.{askOf, keptPressOf}
 use Rattle.acting_judging.specs.declared.Finding.{Finding}
 use Rattle.acting_supervising.specs.Supervising.{clearedOf, followedOf}
-use Rattle.acting_commanding.specs.declared.Memory.{Memory}
+use Rattle.acting_commanding.specs.declared.Noted.{Noted}
 use Rattle.acting_supervising.proofs.EachKind.{faulty-stays, fault-stops, held-kept, contact-kept}
 use Rattle.acting_commanding.proofs.Presses.{fault-drops}
 use Rattle.input.specs.declared.Contacts.{Contacts}
@@ -50,7 +52,7 @@ use Rattle.input.specs.declared.Readings.{Readings}
 -- ---- the parts of a record within its limits
 
 pub record Parts (s : List ℕ) (d : Drive) (w : Wait) (l : Latch) : Type 0 where
-  pub ticks : leb (ticksOf w) 35999 ≡ true
+  pub ticks : leb (ticksOf w) longestWait ≡ true
   pub rested : (restsOf d || eqb (ticksOf w) 0) ≡ true
   pub moves : kindWithin s d (l .fault) ≡ true
   pub stopped : (not (isFault (l .fault)) || restsOf d) ≡ true
@@ -69,11 +71,11 @@ parts-motion s d w l p = rw (p .ticks, p .rested, p .moves, p .stopped, p .latch
 -- ---- rule 9: the wait and the drive after a decision
 
 module _ (s : List ℕ) (pass : passesOf s ≡ true) where
-  delay-most : (d : Direction) (far : Bool) (w : Way) → delayOf s d far w ≤ 36000
+  delay-most : (d : Direction) (far : Bool) (w : Way) → delayOf s d far w ≤ mostTicks
   unfolding delayOf
   delay-most d far w =
-      chosen (λ n. n ≤ 36000) _ _ _ (λ p. t3-range s pass .1)
-      (λ p. chosen (λ n. n ≤ 36000) _ _ _ (λ q. t2-range s pass .1) (λ q. t1-range s pass .1))
+      chosen (λ n. n ≤ mostTicks) _ _ _ (λ p. t3-range s pass .1)
+      (λ p. chosen (λ n. n ≤ mostTicks) _ _ _ (λ q. t2-range s pass .1) (λ q. t1-range s pass .1))
 
   -- the drive before and after, the latch, and a sound decision
   module _ (x : Situation) (o : Decided) (sound : Sound s x o) (d : Drive) (b : Bool) (l : Latch)
@@ -81,11 +83,11 @@ module _ (s : List ℕ) (pass : passesOf s ≡ true) where
       (moves : kindWithin s d (l .fault) ≡ true)
       (stopped : isFault (l .fault) ≡ true → (restsOf d ≡ true) × (o .command ≡ Neither))
       (held : latchWithin l (slot s t8) ≡ true) where
-    ticks-kept : (w : Wait) → o .wait ≡ w → leb (ticksOf w) 35999 ≡ true
+    ticks-kept : (w : Wait) → o .wait ≡ w → leb (ticksOf w) longestWait ≡ true
     unfolding ticksOf
     ticks-kept Idle e = refl
     ticks-kept (For e n) q =
-        le-leb n 35999 (omega (arith, sound .waits e n q .early, delay-most e (x .far) (x .repeat)))
+        le-leb n longestWait (omega (arith, sound .waits e n q .early, delay-most e (x .far) (x .repeat)))
 
     rested-kept : (w : Wait) → o .wait ≡ w → (restsOf (askOf d b (o .command)) || eqb (ticksOf w) 0) ≡ true
     unfolding ticksOf askOf
@@ -158,10 +160,10 @@ module _ (s : List ℕ) (c : Contacts) (x : Finding) (d : Drive) (l : Latch) (la
 
 -- ---- 02, ticket 6: a press that is remembered is beside no fault
 
-pub kept-press : (c : Contacts) (f : Fault) (m : Memory) → pressWithin f (keptPressOf c f m) ≡ true
+pub kept-press : (c : Contacts) (f : Fault) (n : Noted) → pressWithin f (keptPressOf c f n) ≡ true
 unfolding pressWithin
-kept-press c f m =
-    ⊎-elim (λ e. rw (fault-drops c f m e) (ap not (and-false (isFault f)))) (λ e. rw e refl) (split (isFault f))
+kept-press c f n =
+    ⊎-elim (λ e. rw (fault-drops c f n e) (ap not (and-false (isFault f)))) (λ e. rw e refl) (split (isFault f))
 
 -- ---- rules 5 and 7: the counts
 
@@ -170,11 +172,11 @@ module _ (s : List ℕ) where
   unfolding organInputsOf organInputOf delaysOf
   delays-are x section = refl
 
-  one-more-most : (n : ℕ) → n ≤ 999999 → oneMoreOf s n ≤ 999999
+  one-more-most : (n : ℕ) → n ≤ mostOperations → oneMoreOf s n ≤ mostOperations
   unfolding oneMoreOf
   one-more-most n h =
-      chosen (λ k. k ≤ 999999) _ _ _ (λ p. chosen (λ k. k ≤ 999999) _ _ _ (λ q. omega (arith, ltb-true n 999999 q)) (λ q. omega arith)) (λ p. h)
+      chosen (λ k. k ≤ mostOperations) _ _ _ (λ p. chosen (λ k. k ≤ mostOperations) _ _ _ (λ q. omega (arith, ltb-true n mostOperations q)) (λ q. omega arith)) (λ p. h)
 
-  pub operations-most : (n : ℕ) (operation : Bool) → n ≤ 999999 → operationsOf s n operation ≤ 999999
+  pub operations-most : (n : ℕ) (operation : Bool) → n ≤ mostOperations → operationsOf s n operation ≤ mostOperations
   unfolding operationsOf
-  operations-most n operation h = chosen (λ k. k ≤ 999999) _ _ _ (λ p. one-more-most n h) (λ p. h)
+  operations-most n operation h = chosen (λ k. k ≤ mostOperations) _ _ _ (λ p. one-more-most n h) (λ p. h)

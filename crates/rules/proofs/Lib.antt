@@ -1,3 +1,5 @@
+pub mod Acts
+pub mod Values
 pub mod Claim
 pub mod Lasting
 pub mod Made

@@ -28,22 +28,22 @@ use Rattle.rules.proofs.Steps.{tickAt, nextAt, findingAt, clearedAt, fo
 
 -- the contact as rule 7 sees it
 abbrev contactAt : Regulator → Input → Contact
-contactAt r i = contactOf (r .settings) (contactsAt i) (findingAt r i .tap) (clearedAt r i) (r .last)
+contactAt r i = contactOf (r .settings) (contactsAt i) (findingAt r i .tap) (clearedAt r i) (r .state .wear .last)
 
-module _ (d : Direction) (rest : Bool) (g : Drive) (r : Regulator) (i : Input) (l : Lasting d (tickAt rest r i)) (e : r .drive ≡ g)
+module _ (d : Direction) (rest : Bool) (g : Drive) (r : Regulator) (i : Input) (l : Lasting d (tickAt rest r i)) (e : r .state .drive ≡ g)
     (busy : restsOf g ≡ false) (z : slot (r .settings) continuous ≡ 0) where
   -- it has the contact
   by-contact : followedAt g r i ≡ followOf g (contactAt r i)
   by-contact =
-      sym (contact-is (r .settings) (contactsAt i) (findingAt r i) g (clearedAt r i) (r .last) (ne-eqb _ 1 (λ (e : slot (r .settings) continuous ≡ 1). omega arith)))
+      sym (contact-is (r .settings) (contactsAt i) (findingAt r i) g (clearedAt r i) (r .state .wear .last) (ne-eqb _ 1 (λ (e : slot (r .settings) continuous ≡ 1). omega arith)))
 
   -- no command begins on a drive that does not rest
-  goes-on : nextAt r i .drive ≡ followOf g (contactAt r i) .drive
+  goes-on : nextAt r i .state .drive ≡ followOf g (contactAt r i) .drive
   unfolding situationOf askOf
   goes-on =
       let v = live-of d rest r i l in
       let n : situationAt r i .resting ≡ false = ap (λ (b : Bool). b && restsOf (supervisedAt r i .drive)) (ap restsOf e ∙ busy) in
-      ap (λ (t : Ticked). t .next .drive) (v .is) ∙ live-drive r i
+      ap (λ (t : Ticked). t .next .state .drive) (v .is) ∙ live-drive r i
       ∙ ap (λ (o : Decided). askOf (supervisedAt r i .drive) (contactsAt i .automatic) (o .command)) (sym (decided-idle (r .settings) (situationAt r i) n))
       ∙ followed-is r i ∙ ap (λ (h : Drive). followedAt h r i .drive) e ∙ ap (λ (o : Followed). o .drive) by-contact
 
@@ -58,24 +58,24 @@ module _ (d : Direction) (rest : Bool) (g : Drive) (r : Regulator) (i : Input) (
 
 module _ (d : Direction) (rest : Bool) (r : Regulator) (i : Input) (l : Lasting d (tickAt rest r i)) (z : slot (r .settings) continuous ≡ 0) (f : Direction)
     (n : ℕ) where
-  pub asked-open : (a : Bool) → r .drive ≡ Asked f n a → closed (tickAt rest r i) ≡ false → (m : ℕ) × (nextAt r i .drive ≡ Asked f m a)
+  pub asked-open : (a : Bool) → r .state .drive ≡ Asked f n a → closed (tickAt rest r i) ≡ false → (m : ℕ) × (nextAt r i .state .drive ≡ Asked f m a)
   unfolding contactOf
   asked-open a e c =
       let s = serving.asked-open (contactAt r i) f n a (not-local d rest (Asked f n a) r i l e refl z) c (no-fault-on d rest (Asked f n a) r i l e refl z) in
       (s .0, goes-on d rest (Asked f n a) r i l e refl z ∙ s .1)
 
-  pub asked-closed : (a : Bool) → r .drive ≡ Asked f n a → closed (tickAt rest r i) ≡ true → nextAt r i .drive ≡ Moving f 1 true
+  pub asked-closed : (a : Bool) → r .state .drive ≡ Asked f n a → closed (tickAt rest r i) ≡ true → nextAt r i .state .drive ≡ Moving f 1 true
   unfolding contactOf
   asked-closed a e c =
       goes-on d rest (Asked f n a) r i l e refl z ∙ serving.asked-closed (contactAt r i) f n a (not-local d rest (Asked f n a) r i l e refl z) c
 
-  pub moving-closed : r .drive ≡ Moving f n true → closed (tickAt rest r i) ≡ true → (m : ℕ) × (nextAt r i .drive ≡ Moving f m true)
+  pub moving-closed : r .state .drive ≡ Moving f n true → closed (tickAt rest r i) ≡ true → (m : ℕ) × (nextAt r i .state .drive ≡ Moving f m true)
   unfolding contactOf
   moving-closed e c =
       let s = serving.moving-closed (contactAt r i) f n true (not-local d rest (Moving f n true) r i l e refl z) c (no-fault-on d rest (Moving f n true) r i l e refl z) in
       (s .0, goes-on d rest (Moving f n true) r i l e refl z ∙ s .1)
 
-  pub moving-open : r .drive ≡ Moving f n true → closed (tickAt rest r i) ≡ false → nextAt r i .drive ≡ Resting
+  pub moving-open : r .state .drive ≡ Moving f n true → closed (tickAt rest r i) ≡ false → nextAt r i .state .drive ≡ Resting
   unfolding contactOf
   moving-open e c =
       goes-on d rest (Moving f n true) r i l e refl z ∙ serving.moving-open (contactAt r i) f n true (not-local d rest (Moving f n true) r i l e refl z) c

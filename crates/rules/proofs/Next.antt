@@ -11,14 +11,14 @@ use Rattle.slots.specs.Slots.{slot, inService, t4, nL, nR}
 use Rattle.sheet.specs.Sheet.{passesOf}
 use Rattle.common.proofs.Joined.{and-left, and-right, and-four}
 use Rattle.sheet.proofs.Laws.{t4-range}
-use Rattle.organ.specs.Limits.{organsWithin}
-use Rattle.organ.proofs.Within.{all-step-within}
+use Rattle.organ_limits.specs.Limits.{organsWithin}
+use Rattle.organ_limits.proofs.Within.{all-step-within}
 use Rattle.ways.specs.declared.Way.{Way}
 use Rattle.ways.specs.declared.Way.the-variants.{Neither, To}
 use Rattle.drive_follow.specs.Follow.{restsOf}
 use Rattle.fault.specs.Latches.{isFault, latchedOf}
 use Rattle.fault.proofs.Kept.{latched-within}
-use Rattle.tap.proofs.Steps.{counted-kept}
+use Rattle.tap_counted.proofs.Steps.{counted-kept}
 use Rattle.input.specs.declared.Contacts.{Contacts}
 use Rattle.input.specs.declared.Input.{Input}
 use Rattle.input.specs.Brought.{contactsOf}
@@ -26,18 +26,22 @@ use Rattle.blocks.proofs.Laws.{fault-blocks-automatic, fault-blocks-manual}
 use Rattle.command.specs.declared.Decided.{Decided}
 use Rattle.command.specs.declared.Situation.{Situation}
 use Rattle.command_deciding.proofs.Sound.{Sound, decided-sound, modeBlocked}
-use Rattle.record.specs.Limits.{kindWithin, motionWithin, pressWithin, countsWithin, withinOf, delaysOf}
+use Rattle.record_limits.specs.Limits.{kindWithin, motionWithin, pressWithin, countsWithin, withinOf, delaysOf}
 use Rattle.record.specs.declared.Regulator.{Regulator}
-use Rattle.record.proofs.Starts.{fresh-within}
-use Rattle.acting_accounting.specs.Accounting.{accountedOf}
+use Rattle.record_starting.proofs.Starts.{fresh-within}
+use Rattle.acting_accounting.specs.Accounting.{mostOperations, accountedOf}
 use Rattle.acting_judging.specs.Judging.{blockedOf}
-use Rattle.acting_commanding.specs.Commanding.{askOf, situationOf, decisionOf, regulatedOf}
+use Rattle.acting_commanding.specs.Commanding.{askOf, situationOf, decisionOf, keptPressOf, regulatedOf}
 use Rattle.sensing.specs.Protecting.{protectedOf}
 use Rattle.acting_supervising.specs.Supervising.{supervisedOf}
 use Rattle.acting_supervising.specs.declared.Supervised.{Supervised}
-use Rattle.rules.specs.declared.Sensed.{Sensed}
+use Rattle.sensing.specs.declared.Sensed.{Sensed}
 use Rattle.rules.specs.declared.Ticked.{Ticked}
-use Rattle.rules.specs.Ticks.{sensedOf, protectedIn, findingOf, supervisedIn, blockedIn, memoryOf, regulatedIn, rememberedIn, accountedIn, actedOf, nextOf, endOf, ranOf, isOut, outOf, refusedOf, tickOf}
+use Rattle.sensing.specs.Sensing.{sensedOf}
+use Rattle.rules.specs.Acting.{findingOf}
+use Rattle.rules.specs.Acting.{actedOf}
+use Rattle.rules.specs.Ticks.{memoryIn, sensedIn, endOf, ranOf, isOut, outOf, refusedOf, tickOf}
+use Rattle.rules.proofs.Values.{supervisedIn, blockedIn, notedIn, accountedIn}
 use Rattle.rules.proofs.Lasting.{Parts, motion-parts, motion-kept, fault-rests, kind-after, kept-press, delays-are, operations-most}
 
 module _ (r : Regulator) (h : withinOf r ≡ true) where
@@ -45,15 +49,15 @@ module _ (r : Regulator) (h : withinOf r ≡ true) where
   unfolding withinOf
   pass = and-left _ _ (and-left _ _ (and-left _ _ h))
 
-  pub motion : Parts (r .settings) (r .drive) (r .wait) (r .latch)
+  pub motion : Parts (r .settings) (r .state .drive) (r .state .memory .wait) (r .state .latch)
   unfolding withinOf
   motion = motion-parts _ _ _ _ (and-right (passesOf (r .settings)) _ (and-left _ _ (and-left _ _ h)))
 
-  counts : countsWithin (r .settings) (r .organs) (r .«counted_tap») (r .operations) ≡ true
+  counts : countsWithin (r .settings) (r .state .organs) (r .state .wear) ≡ true
   unfolding withinOf
   counts =
       and-right
-      (passesOf (r .settings) && motionWithin (r .settings) (r .drive) (r .wait) (r .latch) && pressWithin (r .latch .fault) (r .remembered))
+      (passesOf (r .settings) && motionWithin (r .settings) (r .state .drive) (r .state .memory .wait) (r .state .latch) && pressWithin (r .state .latch .fault) (r .state .memory .remembered))
       _ h
 
   module _ (c : Contacts) (x : Sensed) where
@@ -61,10 +65,10 @@ module _ (r : Regulator) (h : withinOf r ≡ true) where
     v = supervisedIn r c x
 
     abbrev situated : Situation
-    situated = situationOf c (x .assessed) (blockedIn r c x v) (memoryOf r) (v .drive)
+    situated = situationOf c (x .assessed) (blockedIn r c x v) (memoryIn r) (r .state .drive) (v .drive)
 
     abbrev decided : Decided
-    decided = decisionOf (r .settings) c (x .assessed) (blockedIn r c x v) (memoryOf r) (v .drive)
+    decided = decisionOf (r .settings) c (x .assessed) (blockedIn r c x v) (memoryIn r) (r .state .drive) (v .drive)
 
     sound : Sound (r .settings) situated decided
     unfolding decisionOf
@@ -75,15 +79,15 @@ module _ (r : Regulator) (h : withinOf r ≡ true) where
 
     -- a fault has the drive at rest, and lets no command begin
     rests-in-fault : isFault (v .latch .fault) ≡ true → restsOf (v .drive) ≡ true
-    unfolding supervisedIn supervisedOf latchedOf
-    rests-in-fault e = fault-rests (r .settings) c (findingOf x) (r .drive) (r .latch) (r .last) four-or-more (motion .stopped) _ refl e
+    unfolding supervisedOf latchedOf
+    rests-in-fault e = fault-rests (r .settings) c (findingOf x) (r .state .drive) (r .state .latch) (r .state .wear .last) four-or-more (motion .stopped) _ refl e
 
     kind-kept : kindWithin (r .settings) (v .drive) (v .latch .fault) ≡ true
-    unfolding supervisedIn supervisedOf latchedOf
-    kind-kept = kind-after (r .settings) c (findingOf x) (r .drive) (r .latch) (r .last) four-or-more (motion .stopped) (motion .moves)
+    unfolding supervisedOf latchedOf
+    kind-kept = kind-after (r .settings) c (findingOf x) (r .state .drive) (r .state .latch) (r .state .wear .last) four-or-more (motion .stopped) (motion .moves)
 
     mode-in-fault : isFault (v .latch .fault) ≡ true → modeBlocked situated ≡ true
-    unfolding situationOf blockedIn blockedOf
+    unfolding situationOf blockedOf
     mode-in-fault e =
         chosen (λ b. b ≡ true) _ _ _ (λ p. fault-blocks-automatic (r .settings) c _ e) (λ p. fault-blocks-manual (r .settings) c _ e)
 
@@ -93,31 +97,30 @@ module _ (r : Regulator) (h : withinOf r ≡ true) where
 
     rest : situated .resting ≡ true → restsOf (v .drive) ≡ true
     unfolding situationOf
-    rest e = and-right (restsOf (r .drive)) _ e
+    rest e = and-right (restsOf (r .state .drive)) _ e
 
     next-motion : motionWithin (r .settings) (askOf (v .drive) (c .automatic) (decided .command)) (decided .wait) (v .latch) ≡ true
-    unfolding supervisedIn supervisedOf
+    unfolding supervisedOf
     next-motion =
         motion-kept (r .settings) pass situated decided sound (v .drive) (c .automatic) (v .latch) rest kind-kept
         (λ e. (rests-in-fault e, no-command e (decided .command) refl)) (latched-within _ _ _)
 
-    next-counts : countsWithin (r .settings) (protectedIn r (x .observed) .organs) (accountedIn r v .tap) (accountedIn r v .operations) ≡ true
-    unfolding countsWithin protectedIn protectedOf accountedIn accountedOf
+    next-counts : countsWithin (r .settings) (protectedOf (r .settings) (r .state .organs) (x .observed .readings) (x .observed .section) .organs) (accountedIn r v .wear) ≡ true
+    unfolding countsWithin protectedOf accountedOf
     next-counts =
         let p =
-        and-four (organsWithin (delaysOf (r .settings)) (r .organs)) (leb (slot (r .settings) nL) (r .«counted_tap»))
-        (leb (r .«counted_tap») (slot (r .settings) nR)) (leb (r .operations) 999999) counts in
-        let b = counted-kept (r .settings) (r .«counted_tap») (leb-true _ _ (p .1)) (leb-true _ _ (p .2)) (v .ended) in
-        let o = operations-most (r .settings) (r .operations) (v .operation) (leb-true _ _ (p .3)) in
+        and-four (organsWithin (delaysOf (r .settings)) (r .state .organs)) (leb (slot (r .settings) nL) (r .state .wear .«counted_tap»))
+        (leb (r .state .wear .«counted_tap») (slot (r .settings) nR)) (leb (r .state .wear .operations) mostOperations) counts in
+        let b = counted-kept (r .settings) (r .state .wear .«counted_tap») (leb-true _ _ (p .1)) (leb-true _ _ (p .2)) (v .ended) in
+        let o = operations-most (r .settings) (r .state .wear .operations) (v .operation) (leb-true _ _ (p .3)) in
         rw (← delays-are (r .settings) (x .observed .readings) (x .observed .section), all-step-within, le-leb _ _ (b .above), le-leb _ _ (b .below), le-leb _ _ o)
 
-    next-press : pressWithin (v .latch .fault) (rememberedIn r c v) ≡ true
-    unfolding rememberedIn
-    next-press = kept-press c (v .latch .fault) (memoryOf r)
+    next-press : pressWithin (v .latch .fault) (keptPressOf c (v .latch .fault) (notedIn r c x)) ≡ true
+    next-press = kept-press c (v .latch .fault) (notedIn r c x)
 
   pub next-within : (i : Input) (c : Contacts) → withinOf (ranOf r i c .next) ≡ true
-  unfolding withinOf ranOf endOf nextOf sensedOf actedOf regulatedIn regulatedOf
-  next-within i c = rw (pass, next-motion c (sensedOf r i c), next-press c (sensedOf r i c), next-counts c (sensedOf r i c))
+  unfolding withinOf ranOf endOf sensedOf actedOf regulatedOf
+  next-within i c = rw (pass, next-motion c (sensedIn r i c), next-press c (sensedIn r i c), next-counts c (sensedIn r i c))
 
 -- the tick's next record is within its limits exactly if the record was
 pub tick-lasting : (r : Regulator) (i : Input) → withinOf (tickOf r i .next) ≡ withinOf r
@@ -129,19 +132,3 @@ tick-lasting r i =
     (λ p. fresh-within (r .settings) (pass r h) ∙ sym h)
     (λ p. next-within r h i (contactsOf (i .contacts)) ∙ sym h))
     (λ h. refl)
-
--- the three ways of a tick
-module _ (r : Regulator) (i : Input) {t : Ticked} {b : Bool} {c : Contacts} (w : b ≡ withinOf r) where
-  pub tick-out : c ≡ contactsOf (i .contacts) → b ≡ true → (eqb (slot (r .settings) inService) 0 || c .out) ≡ true → t ≡ outOf r
-      → t ≡ tickOf r i
-  unfolding tickOf isOut
-  tick-out e p q u = yes _ _ _ _ (sym w ∙ p) (yes _ _ _ _ (sym (ap (isOut r) e) ∙ q) u)
-
-  pub tick-live : c ≡ contactsOf (i .contacts) → b ≡ true → (eqb (slot (r .settings) inService) 0 || c .out) ≡ false → t ≡ ranOf r i c
-      → t ≡ tickOf r i
-  unfolding tickOf isOut
-  tick-live e p q u = yes _ _ _ _ (sym w ∙ p) (no _ _ _ _ (sym (ap (isOut r) e) ∙ q) (u ∙ ap (ranOf r i) e))
-
-pub tick-refused : (r : Regulator) (i : Input) {t : Ticked} {b : Bool} → b ≡ withinOf r → b ≡ false → t ≡ refusedOf r → t ≡ tickOf r i
-unfolding tickOf
-tick-refused r i w p u = no _ _ _ _ (sym w ∙ p) u

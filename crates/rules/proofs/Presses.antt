@@ -9,40 +9,39 @@ use Rattle.input.specs.declared.Contacts.{Contacts}
 use Rattle.input.specs.declared.Input.{Input}
 use Rattle.input.specs.Brought.{contactsOf}
 use Rattle.record.specs.declared.Regulator.{Regulator}
-use Rattle.record.specs.Limits.{withinOf}
-use Rattle.record.specs.Starting.{freshOf}
+use Rattle.record_limits.specs.Limits.{withinOf}
+use Rattle.record_starting.specs.Starting.{freshOf}
+use Rattle.acting_commanding.specs.Commanding.{keptPressOf, regulatedOf}
 use Rattle.acting_commanding.proofs.Presses.{fault-drops, automatic-drops, local-drops, rest-leaves-none}
 use Rattle.rules.specs.declared.Ticked.{Ticked}
 use Rattle.rules.proofs.Steps.{tick-cases}
-use Rattle.rules.specs.Ticks.{sensedOf, supervisedIn, memoryOf, rememberedIn, actedOf, nextOf, endOf, ranOf, isOut, outOf, tickOf}
+use Rattle.rules.specs.Acting.{actedOf}
+use Rattle.rules.specs.Ticks.{sensedIn, endOf, ranOf, isOut, outOf, tickOf}
+use Rattle.rules.proofs.Values.{supervisedIn, notedIn}
 
 module _ (r : Regulator) (i : Input) (h : withinOf r ≡ true) where
   abbrev c : Contacts
   c = contactsOf (i .contacts)
 
   -- rule 1's record holds none; else what rules 7 and 9 leave
-  by-the-rules : (isOut r c ≡ false → rememberedIn r c (supervisedIn r c (sensedOf r i c)) ≡ Neither) → tickOf r i .next .remembered ≡ Neither
-  unfolding outOf freshOf ranOf endOf nextOf actedOf
+  by-the-rules : (isOut r c ≡ false → keptPressOf c (supervisedIn r c (sensedIn r i c) .latch .fault) (notedIn r c (sensedIn r i c)) ≡ Neither) → tickOf r i .next .state .memory .remembered ≡ Neither
+  unfolding outOf freshOf ranOf endOf actedOf regulatedOf
   by-the-rules p =
-      tick-cases r i (λ (t : Ticked). t .next .remembered ≡ Neither) (λ w. absurd (true≢false (sym h ∙ w))) (λ _ _. refl) (λ _ o. p o)
+      tick-cases r i (λ (t : Ticked). t .next .state .memory .remembered ≡ Neither) (λ w. absurd (true≢false (sym h ∙ w))) (λ _ _. refl) (λ _ o. p o)
 
   -- "fault, automatic, local drive and out drop it"
-  pub dropped-by-fault : isFault (supervisedIn r c (sensedOf r i c) .latch .fault) ≡ true → tickOf r i .next .remembered ≡ Neither
-  unfolding rememberedIn
-  dropped-by-fault e = by-the-rules (λ _. fault-drops c _ (memoryOf r) e)
+  pub dropped-by-fault : isFault (supervisedIn r c (sensedIn r i c) .latch .fault) ≡ true → tickOf r i .next .state .memory .remembered ≡ Neither
+  dropped-by-fault e = by-the-rules (λ _. fault-drops c _ (notedIn r c (sensedIn r i c)) e)
 
-  pub dropped-by-automatic : c .automatic ≡ true → tickOf r i .next .remembered ≡ Neither
-  unfolding rememberedIn
-  dropped-by-automatic e = by-the-rules (λ _. automatic-drops c _ (memoryOf r) e)
+  pub dropped-by-automatic : c .automatic ≡ true → tickOf r i .next .state .memory .remembered ≡ Neither
+  dropped-by-automatic e = by-the-rules (λ _. automatic-drops c _ (notedIn r c (sensedIn r i c)) e)
 
-  pub dropped-by-local-drive : c .«local_drive» ≡ true → tickOf r i .next .remembered ≡ Neither
-  unfolding rememberedIn
-  dropped-by-local-drive e = by-the-rules (λ _. local-drops c _ (memoryOf r) e)
+  pub dropped-by-local-drive : c .«local_drive» ≡ true → tickOf r i .next .state .memory .remembered ≡ Neither
+  dropped-by-local-drive e = by-the-rules (λ _. local-drops c _ (notedIn r c (sensedIn r i c)) e)
 
-  pub dropped-by-out : isOut r c ≡ true → tickOf r i .next .remembered ≡ Neither
+  pub dropped-by-out : isOut r c ≡ true → tickOf r i .next .state .memory .remembered ≡ Neither
   dropped-by-out e = by-the-rules (λ o. absurd (true≢false (sym e ∙ o)))
 
   -- carried out or dropped "on the first tick that starts with the drive at rest", and never kept past it
-  pub never-past-rest : restsOf (r .drive) ≡ true → tickOf r i .next .remembered ≡ Neither
-  unfolding rememberedIn
-  never-past-rest e = by-the-rules (λ _. rest-leaves-none c _ (memoryOf r) e)
+  pub never-past-rest : restsOf (r .state .drive) ≡ true → tickOf r i .next .state .memory .remembered ≡ Neither
+  never-past-rest e = by-the-rules (λ _. rest-leaves-none c _ (notedIn r c (sensedIn r i c)) e)

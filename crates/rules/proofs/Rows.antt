@@ -10,7 +10,7 @@ use lib.ListN.{length, length-append}
 use Rattle.ways.specs.declared.Direction.{Direction}
 use Rattle.input.specs.declared.Input.{Input}
 use Rattle.record.specs.declared.Regulator.{Regulator}
-use Rattle.record.specs.Limits.{withinOf}
+use Rattle.record_limits.specs.Limits.{withinOf}
 use Rattle.common.specs.Choice.{choose}
 use Rattle.claim.specs.Claim.{Tick, All, Some, Begins, Lasting, Waiting, Free, BeganAtZero, InForce, longest, closed}
 use Rattle.claim.proofs.Lists.{all-join, all-map}

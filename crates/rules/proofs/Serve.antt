@@ -17,7 +17,7 @@ use Rattle.drive.specs.declared.Drive.the-variants.{Asked, Moving}
 use Rattle.drive_follow.specs.Follow.{restsOf}
 use Rattle.input.specs.declared.Input.{Input}
 use Rattle.record.specs.declared.Regulator.{Regulator}
-use Rattle.record.specs.Limits.{withinOf}
+use Rattle.record_limits.specs.Limits.{withinOf}
 use Rattle.claim.specs.Claim.{Tick, output, commandField, All, Some, Begins, Lasting, longest, Serves, Command}
 use Rattle.rules.specs.Lists.{ticksFrom}
 use Rattle.claim.proofs.Lists.{all-front, all-back, all-map, some-back, some-or-none}
@@ -38,16 +38,16 @@ contact-after : (r : Regulator) (is : List Input) → HasContact r → HasContac
 contact-after r is z = ap (λ (s : List ℕ). slot s continuous) (settings-after r is) ∙ z
 
 to-moving :
-    (side u : Direction) (rest : Bool) (r : Regulator) (is : List Input) (a : ℕ) (m : Bool) → HasContact r → r .drive ≡ Asked u a m →
-    All (Lasting side) (ticksFrom rest r is) → All Open (ticksFrom rest r is) → (b : ℕ) × ((recordAfter r is) .drive ≡ Asked u b m)
+    (side u : Direction) (rest : Bool) (r : Regulator) (is : List Input) (a : ℕ) (m : Bool) → HasContact r → r .state .drive ≡ Asked u a m →
+    All (Lasting side) (ticksFrom rest r is) → All Open (ticksFrom rest r is) → (b : ℕ) × ((recordAfter r is) .state .drive ≡ Asked u b m)
 to-moving side u rest r [] a m z d l o = (a, d)
 to-moving side u rest r (i ∷ is) a m z d l o =
     let n = asked-open side rest r i (l .0) z u a m d (o .0) in
     to-moving side u (restAt r i) (nextAt r i) is (n .0) m (contact-on r i z) (n .1) (l .1) (o .1)
 
 moving-on :
-    (side u : Direction) (rest : Bool) (r : Regulator) (is : List Input) (n : ℕ) → HasContact r → r .drive ≡ Moving u n true →
-    All (Lasting side) (ticksFrom rest r is) → All Closed (ticksFrom rest r is) → (m : ℕ) × ((recordAfter r is) .drive ≡ Moving u m true)
+    (side u : Direction) (rest : Bool) (r : Regulator) (is : List Input) (n : ℕ) → HasContact r → r .state .drive ≡ Moving u n true →
+    All (Lasting side) (ticksFrom rest r is) → All Closed (ticksFrom rest r is) → (m : ℕ) × ((recordAfter r is) .state .drive ≡ Moving u m true)
 moving-on side u rest r [] n z d l o = (n, d)
 moving-on side u rest r (i ∷ is) n z d l o =
     let q = moving-closed side rest r i (l .0) z u n d (o .0) in
@@ -55,14 +55,14 @@ moving-on side u rest r (i ∷ is) n z d l o =
 
 -- from a closed contact on: the first closed tick, the others, the open tick that ends the move, and the row after it
 after-closed :
-    (side u : Direction) (rest : Bool) (r : Regulator) (i : Input) (held : List Input) (a : ℕ) (m : Bool) → HasContact r → r .drive ≡ Asked u a m →
+    (side u : Direction) (rest : Bool) (r : Regulator) (i : Input) (held : List Input) (a : ℕ) (m : Bool) → HasContact r → r .state .drive ≡ Asked u a m →
     All (Lasting side) (ticksFrom rest r (i ∷ held)) → All Closed (ticksFrom rest r (i ∷ held)) →
-    (m : ℕ) × ((recordAfter r (i ∷ held)) .drive ≡ Moving u m true)
+    (m : ℕ) × ((recordAfter r (i ∷ held)) .state .drive ≡ Moving u m true)
 after-closed side u rest r i held a m z d l o =
     moving-on side u (restAt r i) (nextAt r i) held 1 (contact-on r i z) (asked-closed side rest r i (l .0) z u a m d (o .0)) (l .1) (o .1)
 
 after-open :
-    (side u : Direction) (rest : Bool) (r : Regulator) (is : List Input) (n : ℕ) → HasContact r → withinOf r ≡ true → r .drive ≡ Moving u n true →
+    (side u : Direction) (rest : Bool) (r : Regulator) (is : List Input) (n : ℕ) → HasContact r → withinOf r ≡ true → r .state .drive ≡ Moving u n true →
     All (Lasting side) (ticksFrom rest r is) → All Open (ticksFrom rest r is) → longest (r .settings) < length is →
     0 < longest (r .settings) → Some (Begins side) (ticksFrom rest r is)
 after-open side u rest r [] n z h d l o p q = absurd (omega arith)
@@ -76,7 +76,7 @@ after-open side u rest r (i ∷ is) n z h d l o p q =
 -- A row in which a command is served, its ticks given by what they brought.
 served :
     (side : Direction) (rest : Bool) (r : Regulator) (before : List Input) (i : Input) (held after : List Input) (b : Bool) → HasContact r → withinOf r ≡ true →
-    r .drive ≡ Asked side 0 b → All (Lasting side) (ticksFrom rest r before) → All Open (ticksFrom rest r before) →
+    r .state .drive ≡ Asked side 0 b → All (Lasting side) (ticksFrom rest r before) → All Open (ticksFrom rest r before) →
     All (Lasting side) (ticksFrom (restAfter rest r before) (recordAfter r before) (i ∷ held)) →
     All Closed (ticksFrom (restAfter rest r before) (recordAfter r before) (i ∷ held)) →
     All (Lasting side) (ticksFrom (restAfter (restAfter rest r before) (recordAfter r before) (i ∷ held)) (recordAfter (recordAfter r before) (i ∷ held)) after) →
@@ -98,7 +98,7 @@ served side rest r before i held after b z h d l₁ o₁ l₂ o₂ l₃ o₃ p q
 -- the same, its ticks given as lists of ticks
 served-row :
     (side : Direction) (rest : Bool) (r : Regulator) (is : List Input) (s : List ℕ) (row : List Tick) (b : Bool) → row ≡ ticksFrom rest r is → HasContact r →
-    withinOf r ≡ true → r .settings ≡ s → r .drive ≡ Asked side 0 b → All (Lasting side) row → Serves s row → 0 < longest s →
+    withinOf r ≡ true → r .settings ≡ s → r .state .drive ≡ Asked side 0 b → All (Lasting side) row → Serves s row → 0 < longest s →
     slot s t5 + slot s t4 + longest s ≤ length row → Some (Begins side) row
 served-row side rest r is s row u e has h t d l v z n =
     let b = cut rest r is (v .before) (v .held ++ v .after) (sym e ∙ v .whole) in

@@ -7,8 +7,8 @@ use native.Mathlib.Omega.{arith}
 use lib.Dec.{eqb}
 use lib.ListN.{getD}
 use Rattle.slots.specs.Slots.{slot, t7}
-use Rattle.busbar.specs.declared.voltage.Level.{Level}
-use Rattle.busbar.specs.declared.voltage.Level.the-variants.{Missing, Low, InBand, High}
+use Rattle.busbar_level.specs.declared.Level.{Level}
+use Rattle.busbar_level.specs.declared.Level.the-variants.{Missing, Low, InBand, High}
 use Rattle.ways.specs.declared.Direction.{Direction}
 use Rattle.ways.specs.declared.Direction.the-variants.{Raise, Lower}
 use Rattle.drive.specs.declared.Drive.{Drive}
@@ -29,14 +29,16 @@ use Rattle.blocks.specs.Blocked.{opposedOf}
 use Rattle.command_deciding.specs.Deciding.{decidedOf}
 use Rattle.record.specs.declared.Regulator.{Regulator}
 use Rattle.acting_supervising.specs.declared.Supervised.{Supervised}
-use Rattle.acting_judging.specs.Judging.{sideOf}
+use Rattle.busbar_level.specs.Levels.{sideOf}
 use Rattle.acting_commanding.specs.Commanding.{askOf, situationOf, decisionOf, regulatedOf}
 use Rattle.showing.specs.Showing as showing
 use Rattle.showing.specs.Showing.{isLow, isHigh, signalsOf, fieldsOf, outputsOf}
-use Rattle.rules.specs.declared.Sensed.{Sensed}
+use Rattle.sensing.specs.declared.Sensed.{Sensed}
 use Rattle.rules.specs.declared.Ticked.{Ticked}
 use Rattle.claim.specs.Claim.{commandField, blockField, sideField}
-use Rattle.rules.specs.Ticks.{sensedOf, supervisedIn, blockedIn, memoryOf, regulatedIn, actedOf, nextOf, endOf, ranOf}
+use Rattle.rules.specs.Acting.{actedOf}
+use Rattle.rules.specs.Ticks.{memoryIn, sensedIn, endOf, ranOf}
+use Rattle.rules.proofs.Values.{supervisedIn, blockedIn, regulatedIn}
 
 -- ---- the values of the rules on a tick
 
@@ -48,7 +50,7 @@ abbrev pub contactsAt : Input → Contacts
 contactsAt i = contactsOf (i .contacts)
 
 abbrev pub sensedAt : Regulator → Input → Sensed
-sensedAt r i = sensedOf r i (contactsAt i)
+sensedAt r i = sensedIn r i (contactsAt i)
 
 abbrev pub supervisedAt : Regulator → Input → Supervised
 supervisedAt r i = supervisedIn r (contactsAt i) (sensedAt r i)
@@ -57,7 +59,7 @@ abbrev pub blocksAt : Regulator → Input → Blocks
 blocksAt r i = blockedIn r (contactsAt i) (sensedAt r i) (supervisedAt r i)
 
 abbrev pub situationAt : Regulator → Input → Situation
-situationAt r i = situationOf (contactsAt i) (sensedAt r i .assessed) (blocksAt r i) (memoryOf r) (supervisedAt r i .drive)
+situationAt r i = situationOf (contactsAt i) (sensedAt r i .assessed) (blocksAt r i) (memoryIn r) (r .state .drive) (supervisedAt r i .drive)
 
 abbrev pub decidedAt : Regulator → Input → Decided
 decidedAt r i = decidedOf (r .settings) (situationAt r i)
@@ -77,16 +79,16 @@ levelTo Raise l = isLow l
 levelTo Lower l = isHigh l
 
 module _ (r : Regulator) (i : Input) where
-  pub live-drive : liveAt r i .next .drive ≡ driveAt r i
-  unfolding ranOf endOf nextOf actedOf regulatedIn regulatedOf decisionOf
+  pub live-drive : liveAt r i .next .state .drive ≡ driveAt r i
+  unfolding ranOf endOf actedOf regulatedOf decisionOf
   live-drive = refl
 
-  pub live-wait : liveAt r i .next .wait ≡ decidedAt r i .wait
-  unfolding ranOf endOf nextOf actedOf regulatedIn regulatedOf decisionOf
+  pub live-wait : liveAt r i .next .state .memory .wait ≡ decidedAt r i .wait
+  unfolding ranOf endOf actedOf regulatedOf decisionOf
   live-wait = refl
 
   pub live-settings : liveAt r i .next .settings ≡ r .settings
-  unfolding ranOf endOf nextOf
+  unfolding ranOf endOf
   live-settings = refl
 
   pub live-accepted : liveAt r i .reply .refusal ≡ 0
@@ -94,12 +96,12 @@ module _ (r : Regulator) (i : Input) where
   live-accepted = refl
 
   pub live-on : (d : Direction) → given (commandField d) (liveAt r i) ≡ showing.bitOf (onTo d (driveAt r i) (slot (r .settings) t7))
-  unfolding ranOf endOf actedOf regulatedIn regulatedOf decisionOf outputsOf fieldsOf signalsOf
+  unfolding ranOf endOf actedOf regulatedOf decisionOf outputsOf fieldsOf signalsOf
   live-on Raise = refl
   live-on Lower = refl
 
   pub live-moving : given 24 (liveAt r i) ≡ showing.bitOf (not (restsOf (driveAt r i)))
-  unfolding ranOf endOf actedOf regulatedIn regulatedOf decisionOf outputsOf fieldsOf signalsOf
+  unfolding ranOf endOf actedOf regulatedOf decisionOf outputsOf fieldsOf signalsOf
   live-moving = refl
 
   pub live-automatic : given 13 (liveAt r i) ≡ showing.bitOf (blocksAt r i .automatic)

@@ -25,12 +25,15 @@ use Rattle.blocks.proofs.Laws.{automatic-no-fault, automatic-not-local}
 use Rattle.blocks.specs.Blocked.{opposedOf}
 use Rattle.command_automatic.specs.Automatic.{waitedOf}
 use Rattle.record.specs.declared.Regulator.{Regulator}
-use Rattle.record.specs.Limits.{withinOf}
-use Rattle.record.specs.Starting.{freshOf}
-use Rattle.acting_judging.specs.Judging.{blockedOf, sideOf}
+use Rattle.record_limits.specs.Limits.{withinOf}
+use Rattle.record_starting.specs.Starting.{freshOf}
+use Rattle.acting_judging.specs.Judging.{blockedOf}
+use Rattle.busbar_level.specs.Levels.{sideOf}
 use Rattle.acting_supervising.specs.Supervising.{clearedOf, followedOf, supervisedOf}
 use Rattle.rules.specs.declared.Ticked.{Ticked}
-use Rattle.rules.specs.Ticks.{findingOf, supervisedIn, blockedIn, isOut, outOf, refusedOf, tickOf}
+use Rattle.rules.specs.Acting.{findingOf}
+use Rattle.rules.specs.Ticks.{isOut, outOf, refusedOf, tickOf}
+use Rattle.rules.proofs.Values.{supervisedIn, blockedIn}
 use Rattle.claim.specs.Claim.{Tick, restAfter, blockField, sideField, Lasting}
 use Rattle.rules.specs.Lists.{seen}
 use Rattle.rules.proofs.Next.{tick-lasting}
@@ -49,11 +52,11 @@ restAt r i = restAfter (tickOf r i .reply .outputs)
 
 -- the wait to a side
 abbrev pub waitTo : Direction → Regulator → ℕ
-waitTo d r = waitedOf d (r .wait)
+waitTo d r = waitedOf d (r .state .memory .wait)
 
 -- rest as the outputs tell it is rest as the record has it
 abbrev pub Linked : Bool → Regulator → Type 0
-Linked rest r = withinOf r ≡ true → rest ≡ restsOf (r .drive)
+Linked rest r = withinOf r ≡ true → rest ≡ restsOf (r .state .drive)
 
 -- ---- refused, out or in service
 
@@ -91,10 +94,10 @@ module _ (r : Regulator) (i : Input) where
   pub within-kept : withinOf (nextAt r i) ≡ withinOf r
   within-kept = tick-lasting r i
 
-  pub linked-kept : withinOf r ≡ true → restAt r i ≡ restsOf (nextAt r i .drive)
+  pub linked-kept : withinOf r ≡ true → restAt r i ≡ restsOf (nextAt r i .state .drive)
   unfolding outOf freshOf
   linked-kept w =
-      tick-cases (λ (t : Ticked). restAfter (t .reply .outputs) ≡ restsOf (t .next .drive)) (λ h. absurd (true≢false (sym w ∙ h))) (λ h o. refl)
+      tick-cases (λ (t : Ticked). restAfter (t .reply .outputs) ≡ restsOf (t .next .state .drive)) (λ h. absurd (true≢false (sym w ∙ h))) (λ h o. refl)
       (λ h o. ap (λ (n : ℕ). eqb n 0) (live-moving r i) ∙ flag-rests (restsOf (driveAt r i)) ∙ ap restsOf (sym (live-drive r i)))
 
   pub never-both : given 0 (tickOf r i) ≡ 1 → given 1 (tickOf r i) ≡ 1 → ⊥
@@ -111,27 +114,27 @@ abbrev pub findingAt : Regulator → Input → Finding
 findingAt r i = findingOf (sensedAt r i)
 
 abbrev pub clearedAt : Regulator → Input → Latch
-clearedAt r i = clearedOf (contactsAt i) (r .latch)
+clearedAt r i = clearedOf (contactsAt i) (r .state .latch)
 
 abbrev pub followedAt : Drive → Regulator → Input → Followed
-followedAt d r i = followedOf (r .settings) (contactsAt i) (findingAt r i) d (clearedAt r i) (r .last)
+followedAt d r i = followedOf (r .settings) (contactsAt i) (findingAt r i) d (clearedAt r i) (r .state .wear .last)
 
 module _ (r : Regulator) (i : Input) where
-  pub followed-is : supervisedAt r i .drive ≡ followedAt (r .drive) r i .drive
-  unfolding supervisedIn supervisedOf
+  pub followed-is : supervisedAt r i .drive ≡ followedAt (r .state .drive) r i .drive
+  unfolding supervisedOf
   followed-is = refl
 
   pub no-fault-before : isFault (supervisedAt r i .latch .fault) ≡ false
-      → (isFault (followedAt (r .drive) r i .fault) ≡ false) × (isFault (clearedAt r i .fault) ≡ false)
-  unfolding supervisedIn supervisedOf latchedOf
+      → (isFault (followedAt (r .state .drive) r i .fault) ≡ false) × (isFault (clearedAt r i .fault) ≡ false)
+  unfolding supervisedOf latchedOf
   no-fault-before e = later-none _ _ e
 
   pub blocks-no-fault : blocksAt r i .automatic ≡ false → isFault (supervisedAt r i .latch .fault) ≡ false
-  unfolding blockedIn blockedOf
+  unfolding blockedOf
   blocks-no-fault e = automatic-no-fault (r .settings) (contactsAt i) _ e
 
   pub blocks-not-local : blocksAt r i .automatic ≡ false → contactsAt i .«local_drive» ≡ false
-  unfolding blockedIn blockedOf
+  unfolding blockedOf
   blocks-not-local e = automatic-not-local (r .settings) (contactsAt i) _ e
 
   not-out : slot (r .settings) inService ≡ 1 → contactsAt i .out ≡ false → isOut r (contactsAt i) ≡ false

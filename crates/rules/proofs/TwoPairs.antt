@@ -15,46 +15,45 @@ use Rattle.input.specs.declared.Contacts.{Contacts}
 use Rattle.input.specs.declared.Input.{Input}
 use Rattle.input.specs.Brought.{contactsOf, readingsOf}
 use Rattle.blocks.specs.Blocked.{blocksOf}
-use Rattle.command.specs.declared.Buttons.{Buttons}
-use Rattle.command_pairs.specs.declared.Keys.{Keys}
+use Rattle.keys.specs.declared.Buttons.{Buttons}
+use Rattle.keys.specs.declared.Keys.{Keys}
 use Rattle.command_pairs.specs.Pairs.{pairOf, changedOf, heardOf}
 use Rattle.command_pairs.proofs.TwoPairs.{withOther, other-unheard, change-forgets}
 use Rattle.sheet.specs.Sheet.{passesOf}
 use Rattle.record.specs.declared.Regulator.{Regulator}
-use Rattle.record.specs.Limits.{motionWithin, pressWithin, countsWithin, withinOf}
-use Rattle.record.specs.Starting.{localKeys, freshOf}
+use Rattle.record.specs.Whole.{regulatorOf}
+use Rattle.record_limits.specs.Limits.{motionWithin, pressWithin, countsWithin, withinOf}
+use Rattle.record_starting.specs.Starting.{localKeys, freshOf}
 use Rattle.sensing.specs.Observing.{observedOf}
 use Rattle.sensing.specs.Assessing.{assessedOf}
 use Rattle.acting_supervising.specs.declared.Supervised.{Supervised}
 use Rattle.acting_judging.specs.Judging.{blockedOf}
 use Rattle.acting_supervising.specs.Supervising.{contactOf, clearedOf, holdingOf, followedOf, supervisedOf}
-use Rattle.acting_commanding.specs.Commanding.{keysOf, heardIn}
-use Rattle.acting_commanding.proofs.TwoPairs.{contactsWith, regulated-by-heard, kept-by-heard, held-begins-nothing}
+use Rattle.acting_commanding.specs.Commanding.{heardIn, regulatedOf}
+use Rattle.acting_commanding.proofs.TwoPairs.{contactsWith, memoryWith, keyed, regulated-by-heard, held-begins-nothing}
 use Rattle.rules.specs.declared.Ticked.{Ticked}
-use Rattle.rules.specs.declared.Sensed.{Sensed}
-use Rattle.rules.specs.Ticks.{observedIn, protectedIn, assessedIn, sensedOf, supervisedIn, blockedIn, memoryOf, regulatedIn, rememberedIn, accountedIn, actedOf, nextOf, endOf, ranOf, isOut, outOf, refusedOf, tickOf}
+use Rattle.sensing.specs.declared.Sensed.{Sensed}
+use Rattle.sensing.specs.Sensing.{sensedOf}
+use Rattle.rules.specs.Acting.{actedOf}
+use Rattle.rules.specs.Ticks.{memoryIn, sensedIn, actedIn, endOf, ranOf, isOut, outOf, refusedOf, tickOf}
+use Rattle.rules.proofs.Values.{supervisedIn, blockedIn, regulatedIn, accountedIn}
 use Rattle.rules.proofs.Steps.{live-is, out-is}
 
 -- the record with these keys of the previous tick, and this press remembered
 abbrev pub recalling : Keys → Way → Regulator → Regulator
 recalling k press r =
-    record {
-      settings = r .settings;
-      organs = r .organs;
-      drive = r .drive;
-      latch = r .latch;
-      wait = r .wait;
-      repeat = r .repeat;
-      last = r .last;
-      «counted_tap» = r .«counted_tap»;
-      operations = r .operations;
-      keys = k;
-      remembered = press;
-    }
+    regulatorOf (r .settings)
+    (record {
+      organs = r .state .organs;
+      drive = r .state .drive;
+      latch = r .state .latch;
+      memory = memoryWith k press (r .state .memory);
+      wear = r .state .wear;
+    })
 
 -- the record with these keys, and all else as it is
 abbrev pub rekeyed : Keys → Regulator → Regulator
-rekeyed k r = recalling k (r .remembered) r
+rekeyed k r = recalling k (r .state .memory .remembered) r
 
 -- the tick with these contacts
 abbrev pub withContacts : ℕ → Input → Input
@@ -82,38 +81,31 @@ module _ (r : Regulator) (i : Input) (c : Contacts) (n : ℕ) (now before : Keys
   abbrev c′ : Contacts
   c′ = contactsWith now c
 
-  sensed-same : sensedOf r′ i′ c′ ≡ sensedOf r i c
-  unfolding sensedOf observedIn protectedIn assessedIn observedOf assessedOf readingsOf
+  sensed-same : sensedIn r′ i′ c′ ≡ sensedIn r i c
+  unfolding sensedOf observedOf assessedOf readingsOf
   sensed-same = refl
 
   supervised-same : (x : Sensed) → supervisedIn r′ c′ x ≡ supervisedIn r c x
-  unfolding supervisedIn supervisedOf followedOf holdingOf contactOf clearedOf blockedOf blocksOf
+  unfolding supervisedOf followedOf holdingOf contactOf clearedOf blockedOf blocksOf
   supervised-same x = refl
 
   blocked-same : (x : Sensed) (v : Supervised) → blockedIn r′ c′ x v ≡ blockedIn r c x v
-  unfolding blockedIn blockedOf blocksOf
+  unfolding blockedOf blocksOf
   blocked-same x v = refl
 
-  module _ (h : heardOf now before press ≡ heardIn c (memoryOf r)) where
-    regulated-same : (x : Sensed) (v : Supervised) → regulatedIn r′ c′ x v ≡ regulatedIn r c x v
-    unfolding regulatedIn
-    regulated-same x v =
-        rw (blocked-same x v) (regulated-by-heard c (memoryOf r) now before press h (r .settings) (x .assessed) (blockedIn r c x v) (v .drive))
-
-    acted-same : (x : Sensed) → actedOf r′ c′ x ≡ actedOf r c x
-    unfolding actedOf accountedIn
-    acted-same x =
-        rw (supervised-same x, blocked-same x (supervisedIn r c x), regulated-same x (supervisedIn r c x)) refl
-
-    remembered-same : (v : Supervised) → rememberedIn r′ c′ v ≡ rememberedIn r c v
-    unfolding rememberedIn
-    remembered-same v = kept-by-heard c (memoryOf r) now before press h (v .latch .fault)
-
+  module _ (h : heardOf now before press ≡ heardIn c (memoryIn r)) where
     -- the same outputs, and the same next record but for the keys, which are this tick's
     pub ran-same : ranOf r′ i′ c′ ≡ record { reply = ranOf r i c .reply; next = rekeyed now (ranOf r i c .next) }
-    unfolding ranOf endOf nextOf
+    unfolding ranOf endOf actedOf
     ran-same =
-        rw (sensed-same, acted-same (sensedOf r i c), remembered-same (actedOf r c (sensedOf r i c) .supervised)) refl
+        let x = sensedIn r i c in
+        let v = supervisedIn r c x in
+        rw (
+          sensed-same,
+          supervised-same x,
+          blocked-same x v,
+          regulated-by-heard c (memoryIn r) now before press h (r .settings) (x .assessed) (blockedIn r c x v) (r .state .drive) (v .drive) (v .latch .fault),
+        ) refl
 
 -- ---- the other pair
 
@@ -139,10 +131,10 @@ module _ (r : Regulator) (i : Input) (n : ℕ) (b b′ : Buttons) where
   c = contactsOf (i .contacts)
 
   abbrev now : Keys
-  now = withOther (c .remote) b (keysOf c)
+  now = withOther (c .keys .remote) b (c .keys)
 
   abbrev before : Keys
-  before = withOther (c .remote) b′ (r .keys)
+  before = withOther (c .keys .remote) b′ (r .state .memory .keys)
 
   abbrev r″ : Regulator
   r″ = rekeyed before r
@@ -150,7 +142,7 @@ module _ (r : Regulator) (i : Input) (n : ℕ) (b b′ : Buttons) where
   by-contacts : Alike (tickBy r″ (withContacts n i) (contactsWith now c)) (tickBy r i c)
   unfolding withinOf isOut outOf refusedOf
   by-contacts =
-      let ran = ran-same r i c n now before (r .remembered) (other-unheard (keysOf c) (r .keys) (r .remembered) b b′) in
+      let ran = ran-same r i c n now before (r .state .memory .remembered) (other-unheard (c .keys) (r .state .memory .keys) (r .state .memory .remembered) b b′) in
       alike-chosen (withinOf r) _ _ _ _
       (alike-chosen (isOut r c) _ _ _ _ (refl, (λ k. refl)) (ap (λ (t : Ticked). t .reply) ran, (λ k. ap (λ (t : Ticked). rekeyed k (t .next)) ran)))
       (refl, (λ k. refl))
@@ -173,43 +165,43 @@ module _ (r : Regulator) (i : Input) (w : withinOf r ≡ true) where
 
   -- a record that remembers no press, and is as it was otherwise
   abbrev forgetful : Regulator
-  forgetful = recalling (r .keys) Neither r
+  forgetful = recalling (r .state .memory .keys) Neither r
 
   forgetful-within : withinOf forgetful ≡ true
   unfolding withinOf
   forgetful-within =
       let passed = passesOf (r .settings) in
-      let moved = motionWithin (r .settings) (r .drive) (r .wait) (r .latch) in
-      let pressed = pressWithin (r .latch .fault) (r .remembered) in
-      let counted = countsWithin (r .settings) (r .organs) (r .«counted_tap») (r .operations) in
+      let moved = motionWithin (r .settings) (r .state .drive) (r .state .memory .wait) (r .state .latch) in
+      let pressed = pressWithin (r .state .latch .fault) (r .state .memory .remembered) in
+      let counted = countsWithin (r .settings) (r .state .organs) (r .state .wear) in
       let all = and-four passed moved pressed counted w in
-      rw (all .0, all .1, no-press (r .latch .fault), all .3)
+      rw (all .0, all .1, no-press (r .state .latch .fault), all .3)
 
   -- "a change of mode drops a remembered press": the tick is that of the record which remembers none
-  pub dropped-by-change : changedOf (keysOf cᵢ) (r .keys) ≡ true → tickOf r i ≡ tickOf forgetful i
-  unfolding ranOf endOf nextOf isOut outOf
+  pub dropped-by-change : changedOf (cᵢ .keys) (r .state .memory .keys) ≡ true → tickOf r i ≡ tickOf forgetful i
+  unfolding ranOf endOf actedOf regulatedOf isOut outOf
   dropped-by-change e =
-      let ran = ran-same r i cᵢ (i .contacts) (keysOf cᵢ) (r .keys) Neither (sym (change-forgets (keysOf cᵢ) (r .keys) (r .remembered) e)) in
+      let ran = ran-same r i cᵢ (i .contacts) (cᵢ .keys) (r .state .memory .keys) Neither (sym (change-forgets (cᵢ .keys) (r .state .memory .keys) (r .state .memory .remembered) e)) in
       ⊎-elim (λ o. out-is r i w o ∙ sym (out-is forgetful i forgetful-within o))
       (λ o. live-is r i w o ∙ (sym ran ∙ sym (live-is forgetful i forgetful-within o)))
       (split (isOut r cᵢ))
 
   -- "each pair remembers its own previous tick in both modes"
-  pub both-remembered : isOut r cᵢ ≡ false → tickOf r i .next .keys ≡ keysOf cᵢ
-  unfolding ranOf endOf nextOf
-  both-remembered o = ap (λ (t : Ticked). t .next .keys) (live-is r i w o)
+  pub both-remembered : isOut r cᵢ ≡ false → tickOf r i .next .state .memory .keys ≡ cᵢ .keys
+  unfolding ranOf endOf actedOf regulatedOf
+  both-remembered o = ap (λ (t : Ticked). t .next .state .memory .keys) (live-is r i w o)
 
   -- "pressed when fresh"
-  pub pressed-when-out : isOut r cᵢ ≡ true → tickOf r i .next .keys ≡ localKeys true
+  pub pressed-when-out : isOut r cᵢ ≡ true → tickOf r i .next .state .memory .keys ≡ localKeys true
   unfolding outOf freshOf
-  pressed-when-out o = ap (λ (t : Ticked). t .next .keys) (out-is r i w o)
+  pressed-when-out o = ap (λ (t : Ticked). t .next .state .memory .keys) (out-is r i w o)
 
   -- so a button that is held through a change of mode is no press of its pair: the tick begins no command, and leaves the drive as rule 7
   -- did
-  pub held-begins-none : isOut r cᵢ ≡ false → cᵢ .automatic ≡ false → changedOf (keysOf cᵢ) (r .keys) ≡ true
-      → (pairOf (cᵢ .remote) (keysOf cᵢ) .raise ≡ true → pairOf (cᵢ .remote) (r .keys) .raise ≡ true)
-      → (pairOf (cᵢ .remote) (keysOf cᵢ) .lower ≡ true → pairOf (cᵢ .remote) (r .keys) .lower ≡ true)
-      → tickOf r i .next .drive ≡ supervisedIn r cᵢ (sensedOf r i cᵢ) .drive
-  unfolding ranOf endOf nextOf actedOf regulatedIn
+  pub held-begins-none : isOut r cᵢ ≡ false → cᵢ .automatic ≡ false → changedOf (cᵢ .keys) (r .state .memory .keys) ≡ true
+      → (pairOf (cᵢ .keys .remote) (cᵢ .keys) .raise ≡ true → pairOf (cᵢ .keys .remote) (r .state .memory .keys) .raise ≡ true)
+      → (pairOf (cᵢ .keys .remote) (cᵢ .keys) .lower ≡ true → pairOf (cᵢ .keys .remote) (r .state .memory .keys) .lower ≡ true)
+      → tickOf r i .next .state .drive ≡ supervisedIn r cᵢ (sensedIn r i cᵢ) .drive
+  unfolding ranOf endOf actedOf
   held-begins-none o a e p q =
-      ap (λ (t : Ticked). t .next .drive) (live-is r i w o) ∙ held-begins-nothing cᵢ (memoryOf r) a e p q _ _ _ _
+      ap (λ (t : Ticked). t .next .state .drive) (live-is r i w o) ∙ held-begins-nothing cᵢ (memoryIn r) a e p q _ _ _ _ _ _

@@ -13,7 +13,7 @@ use Rattle.common.specs.Choice.{choose}
 use Rattle.common.proofs.Cases.{yes, no, chosen}
 use Rattle.slots.specs.Slots.{slot, inService, t7}
 use Rattle.sheet.specs.Sheet.{passesOf}
-use Rattle.sheet.specs.Table.{rowOf, rowIn}
+use Rattle.sheet_ranges.specs.Table.{rowOf, rowIn}
 use Rattle.common.proofs.Joined.{split, and-left, and-right, or-left, or-right}
 use Rattle.sheet.proofs.Laws.{in-run, t1-range, t2-range, t3-range}
 use Rattle.ways.specs.declared.Direction.{Direction}
@@ -35,8 +35,8 @@ use Rattle.command.specs.declared.Wait.the-variants.{Idle, For}
 use Rattle.command_automatic.specs.Automatic.{ticksOf, waitedOf, delayOf, waitOnOf}
 use Rattle.command_deciding.proofs.Sound.{Waits, decided-sound, decided-waits}
 use Rattle.record.specs.declared.Regulator.{Regulator}
-use Rattle.record.specs.Limits.{withinOf}
-use Rattle.record.specs.Starting.{freshOf}
+use Rattle.record_limits.specs.Limits.{withinOf}
+use Rattle.record_starting.specs.Starting.{freshOf}
 use Rattle.acting_commanding.specs.Commanding.{askOf, situationOf}
 use Rattle.showing.specs.Showing as showing
 use Rattle.rules.specs.declared.Ticked.{Ticked}
@@ -50,13 +50,13 @@ use Rattle.rules.proofs.Steps.{tickAt, nextAt, restAt, waitTo, Linked, 
 -- ---- a command that begins
 
 -- from rest, a command is on only if one was decided
-on-decided : (d : Direction) (r : Regulator) (i : Input) (n : ℕ) → restsOf (r .drive) ≡ true → (w : Way)
+on-decided : (d : Direction) (r : Regulator) (i : Input) (n : ℕ) → restsOf (r .state .drive) ≡ true → (w : Way)
     → onTo d (askOf (supervisedAt r i .drive) (contactsAt i .automatic) w) n ≡ true → w ≡ To d
 unfolding askOf onOf
 on-decided d r i n e Neither p =
     absurd
     (false≢true
-    (sym (is-to-neither d) ∙ ap (isTo d) (sym (rest-silent (r .settings) (contactsAt i) (findingAt r i) (r .drive) (clearedAt r i) (r .last) n e) ∙ ap (λ (g : Drive). onOf g n) (sym (followed-is r i))) ∙ p))
+    (sym (is-to-neither d) ∙ ap (isTo d) (sym (rest-silent (r .settings) (contactsAt i) (findingAt r i) (r .state .drive) (clearedAt r i) (r .state .wear .last) n e) ∙ ap (λ (g : Drive). onOf g n) (sym (followed-is r i))) ∙ p))
 on-decided d r i n e (To f) p = ap To (is-to-is d f p)
 
 pub record Begun (d : Direction) (r : Regulator) (i : Input) : Type 0 where
@@ -89,10 +89,10 @@ module _ (d : Direction) (rest : Bool) (r : Regulator) (i : Input) (k : Linked r
       zero-one : _≡_ {A = ℕ} 0 1 → ⊥
       zero-one z = omega arith
 
-  pub begun-asked : nextAt r i .drive ≡ Asked d 0 (contactsAt i .automatic)
+  pub begun-asked : nextAt r i .state .drive ≡ Asked d 0 (contactsAt i .automatic)
   unfolding askOf
   begun-asked =
-      ap (λ (t : Ticked). t .next .drive) (begun .is) ∙ live-drive r i ∙ ap (askOf (supervisedAt r i .drive) (contactsAt i .automatic)) (begun .command)
+      ap (λ (t : Ticked). t .next .state .drive) (begun .is) ∙ live-drive r i ∙ ap (askOf (supervisedAt r i .drive) (contactsAt i .automatic)) (begun .command)
 
   pub begun-moves : restAt r i ≡ false
   begun-moves = linked-kept r i (begun .within) ∙ ap restsOf begun-asked
@@ -144,8 +144,8 @@ held-is Lower (For Raise n) = refl
 held-is Lower (For Lower n) = refl
 
 pub no-wait-is : (d : Direction) (r : Regulator) → waitFor d (opening r) ≡ 0 → waitTo d r ≡ 0
-no-wait-is Raise r h = held-is Raise (r .wait) ∙ h
-no-wait-is Lower r h = held-is Lower (r .wait) ∙ h
+no-wait-is Raise r h = held-is Raise (r .state .memory .wait) ∙ h
+no-wait-is Lower r h = held-is Lower (r .state .memory .wait) ∙ h
 
 waited-self : (d : Direction) (n : ℕ) → waitedOf d (For d n) ≡ n
 unfolding waitedOf ticksOf
@@ -167,14 +167,14 @@ module _ (d : Direction) (rest : Bool) (r : Regulator) (i : Input) (k : Linked r
   l : Live d r i
   l = live-of d rest r i (w .lasting)
 
-  rested : restsOf (r .drive) ≡ true
+  rested : restsOf (r .state .drive) ≡ true
   rested = sym (k (l .within)) ∙ w .rest
 
   still : supervisedAt r i .drive ≡ Resting
   still =
       followed-is r i
       ∙ ap (λ (o : Followed). o .drive)
-      (sym (rest-free (r .settings) (contactsAt i) (findingAt r i) (r .drive) (clearedAt r i) (r .last) rested (w .contact)))
+      (sym (rest-free (r .settings) (contactsAt i) (findingAt r i) (r .state .drive) (clearedAt r i) (r .state .wear .last) rested (w .contact)))
 
   resting : situationAt r i .resting ≡ true
   unfolding situationOf
@@ -208,7 +208,7 @@ module _ (d : Direction) (rest : Bool) (r : Regulator) (i : Input) (k : Linked r
         more = ap (λ (t : Ticked). waitTo d (t .next)) (l .is) ∙ ap (waitedOf d) (live-wait r i ∙ q) ∙ waited-self d (waitTo d r + 1);
         rests =
             linked-kept r i (l .within)
-            ∙ ap restsOf (ap (λ (t : Ticked). t .next .drive) (l .is) ∙ live-drive r i ∙ ap (askOf (supervisedAt r i .drive) (contactsAt i .automatic)) c ∙ still);
+            ∙ ap restsOf (ap (λ (t : Ticked). t .next .state .drive) (l .is) ∙ live-drive r i ∙ ap (askOf (supervisedAt r i .drive) (contactsAt i .automatic)) c ∙ still);
       }
 
   pub wait-step : Comes d rest r i ⊎ Goes d rest r i
@@ -240,9 +240,9 @@ module _ (d : Direction) (rest : Bool) (r : Regulator) (i : Input) (k : Linked r
       let f = blocks-no-fault r i (q .mode) in
       let z = no-field (supervisedAt r i .latch .fault) f in
       let b = no-fault-before r i f in
-      let was : restsOf (r .drive) ≡ true = and-left _ _ (q .resting) in
-      let now : restsOf (followedAt (r .drive) r i .drive) ≡ true =
-      ap restsOf (sym (followed-is r i)) ∙ and-right (restsOf (r .drive)) _ (q .resting) in
+      let was : restsOf (r .state .drive) ≡ true = and-left _ _ (q .resting) in
+      let now : restsOf (followedAt (r .state .drive) r i .drive) ≡ true =
+      ap restsOf (sym (followed-is r i)) ∙ and-right (restsOf (r .state .drive)) _ (q .resting) in
       record {
         lasting =
             record {
@@ -260,7 +260,7 @@ module _ (d : Direction) (rest : Bool) (r : Regulator) (i : Input) (k : Linked r
             };
         rest = k h ∙ was;
         contact =
-            rest-needs-free (r .settings) (contactsAt i) (findingAt r i) (r .drive) (clearedAt r i) (r .last) was (blocks-not-local r i (q .mode))
+            rest-needs-free (r .settings) (contactsAt i) (findingAt r i) (r .state .drive) (clearedAt r i) (r .state .wear .last) was (blocks-not-local r i (q .mode))
             (b .1) (b .0) now;
       }
 
@@ -273,7 +273,7 @@ module _ (d : Direction) (rest : Bool) (r : Regulator) (i : Input) (k : Linked r
       (λ p. inr (sym (no _ _ _ _ p refl)))
       (split (isTo d (To e)))
 
-fresh-waits : (d : Direction) (s : List ℕ) → waitedOf d (freshOf s .wait) ≡ 0
+fresh-waits : (d : Direction) (s : List ℕ) → waitedOf d (freshOf s .state .memory .wait) ≡ 0
 unfolding waitedOf freshOf
 fresh-waits d s = refl
 

@@ -18,7 +18,8 @@ use Rattle.input.specs.declared.Input.{Input}
 use Rattle.command.specs.declared.Wait.{Wait}
 use Rattle.command.specs.declared.Wait.the-variants.{Idle, For}
 use Rattle.record.specs.declared.Regulator.{Regulator}
-use Rattle.record.specs.Starting.{freshOf}
+use Rattle.record.specs.Whole.{regulatorOf}
+use Rattle.record_starting.specs.Starting.{freshOf}
 use Rattle.rules.specs.Lists.{ticksFrom, opening}
 use Rattle.rules.proofs.Claim.{kept}
 use Rattle.rules.proofs.Opened.{opened}
@@ -56,20 +57,15 @@ longHeld = replicate 49 lowClosed ++ replicate 25 lowReset
 -- the fresh record, but for its wait and its operations
 abbrev freshBut : Wait → ℕ → Regulator
 freshBut wait operations =
-    let r = freshOf variedSheet in
-    record {
-      settings = r .settings;
-      organs = r .organs;
-      drive = r .drive;
-      latch = r .latch;
-      wait = wait;
-      repeat = r .repeat;
-      last = r .last;
-      «counted_tap» = r .«counted_tap»;
-      operations = operations;
-      keys = r .keys;
-      remembered = r .remembered;
-    }
+    let m = freshOf variedSheet .state in
+    regulatorOf variedSheet
+    (record {
+      organs = m .organs;
+      drive = m .drive;
+      latch = m .latch;
+      memory = record { wait = wait; repeat = m .memory .repeat; keys = m .memory .keys; remembered = m .memory .remembered };
+      wear = record { last = m .wear .last; operations = operations; «counted_tap» = m .wear .«counted_tap» };
+    })
 
 -- the records that the lists begin on
 abbrev fresh : Regulator
@@ -92,7 +88,7 @@ abbrev pressTicks : List Press → List Input
 pressTicks rows = map (λ p. brought 0x42C8_0000 (p .0)) rows
 
 abbrev commandsOf : Regulator → List Input → List (ℕ × ℕ × ℕ)
-commandsOf r is = map (λ t. (output 0 t, output 1 t, output 24 t)) (ticksFrom (restsOf (r .drive)) r is)
+commandsOf r is = map (λ t. (output 0 t, output 1 t, output 24 t)) (ticksFrom (restsOf (r .state .drive)) r is)
 
 -- 02, ticket 6: a lower pressed in a raise's move begins on the first tick that starts at rest, and on no other; a raise pressed as its
 -- move ends is blocked on that tick, and so dropped
@@ -135,7 +131,7 @@ abbrev counting : List ℕ → Regulator
 counting s = freshOf (set s wearCount 1)
 
 abbrev countsOf : Regulator → List Count → List ℕ
-countsOf r rows = map (λ t. output 25 t) (ticksFrom (restsOf (r .drive)) r (map (λ p. brought 0x42C8_0000 (p .0)) rows))
+countsOf r rows = map (λ t. output 25 t) (ticksFrom (restsOf (r .state .drive)) r (map (λ p. brought 0x42C8_0000 (p .0)) rows))
 
 -- rule 7: a raise counts on the tick on which its move ends
 abbrev countRows : List Count
@@ -146,14 +142,14 @@ abbrev heldCountRows : List Count
 heldCountRows = (0x000001, 0) ∷ (0x080001, 0) ∷ (replicate 23 (0x000001, 0) ++ ((0x000001, 1) ∷ (0x000001, 1) ∷ []))
 
 pub record Given : Type 0 where
-  pub early : ticksFrom (restsOf (fresh .drive)) fresh (served 4 5) ≡ servedList 4 5
-  pub bound : ticksFrom (restsOf (fresh .drive)) fresh (served 21 24) ≡ servedList 21 24
-  pub high : ticksFrom (restsOf (waiting .drive)) waiting (replicate 21 highOpen) ≡ highList
-  pub held : ticksFrom (restsOf (waiting .drive)) waiting (replicate 13 lowOpen) ≡ waitingList
-  pub refused : ticksFrom (restsOf (outside .drive)) outside (replicate 3 lowOpen) ≡ outsideList
-  pub long : ticksFrom (restsOf (freshHeld .drive)) freshHeld longHeld ≡ heldList
-  pub band : ticksFrom (restsOf (freshHeld .drive)) freshHeld (replicate 48 lowClosed ++ (bandClosed ∷ [])) ≡ heldBandList
-  pub heldHigh : ticksFrom (restsOf (freshHeld .drive)) freshHeld (replicate 21 highClosed) ≡ heldHighList
+  pub early : ticksFrom (restsOf (fresh .state .drive)) fresh (served 4 5) ≡ servedList 4 5
+  pub bound : ticksFrom (restsOf (fresh .state .drive)) fresh (served 21 24) ≡ servedList 21 24
+  pub high : ticksFrom (restsOf (waiting .state .drive)) waiting (replicate 21 highOpen) ≡ highList
+  pub held : ticksFrom (restsOf (waiting .state .drive)) waiting (replicate 13 lowOpen) ≡ waitingList
+  pub refused : ticksFrom (restsOf (outside .state .drive)) outside (replicate 3 lowOpen) ≡ outsideList
+  pub long : ticksFrom (restsOf (freshHeld .state .drive)) freshHeld longHeld ≡ heldList
+  pub band : ticksFrom (restsOf (freshHeld .state .drive)) freshHeld (replicate 48 lowClosed ++ (bandClosed ∷ [])) ≡ heldBandList
+  pub heldHigh : ticksFrom (restsOf (freshHeld .state .drive)) freshHeld (replicate 21 highClosed) ≡ heldHighList
   pub pressed : commandsOf fresh (pressTicks pressRows) ≡ map (λ p. p .1) pressRows
   pub heldPressed : commandsOf freshHeld (pressTicks heldPressRows) ≡ map (λ p. p .1) heldPressRows
   pub paired : commandsOf fresh (pressTicks pairRows) ≡ map (λ p. p .1) pairRows
@@ -191,10 +187,10 @@ given =
 
 -- ---- demand 3 is kept of them
 
-kept-of : (r : Regulator) (is : List Input) {o : Opening} {l : List Tick} → opening r ≡ o → ticksFrom (restsOf (r .drive)) r is ≡ l → Kept o l
+kept-of : (r : Regulator) (is : List Input) {o : Opening} {l : List Tick} → opening r ≡ o → ticksFrom (restsOf (r .state .drive)) r is ≡ l → Kept o l
 kept-of r is {o} {l} p q = subst (λ (x : Opening). Kept x l) p (subst (Kept (opening r)) q (kept r is))
 
-kept-held : (is : List Input) {l : List Tick} → ticksFrom (restsOf (freshHeld .drive)) freshHeld is ≡ l → Kept heldOpening l
+kept-held : (is : List Input) {l : List Tick} → ticksFrom (restsOf (freshHeld .state .drive)) freshHeld is ≡ l → Kept heldOpening l
 kept-held is q = kept-of freshHeld is (given .onHeld) q
 
 -- a row after no waiting ticks, a row under T2, the longest delay, a row under T3, a served command, a wait held before; without a

@@ -12,13 +12,13 @@ use Rattle.command.specs.declared.Wait.{Wait}
 use Rattle.command.specs.declared.Wait.the-variants.{Idle, For}
 use Rattle.command_automatic.specs.Automatic.{delayOf}
 use Rattle.record.specs.declared.Regulator.{Regulator}
-use Rattle.record.specs.Limits.{withinOf}
+use Rattle.record_limits.specs.Limits.{withinOf}
 use Rattle.rules.specs.declared.Ticked.{Ticked}
-use Rattle.rules.specs.Ticks.{sensedOf, tickOf}
+use Rattle.rules.specs.Ticks.{sensedIn, tickOf}
 
 -- *delay in force* to a side: "the one that rule 9 names on that tick"
 abbrev pub delayIn : Direction → Regulator → Input → ℕ
-delayIn d r i = delayOf (r .settings) d (sensedOf r i (contactsOf (i .contacts)) .assessed .far) (r .repeat)
+delayIn d r i = delayOf (r .settings) d (sensedIn r i (contactsOf (i .contacts)) .assessed .far) (r .state .memory .repeat)
 
 -- the tick that starts at rest or not, got r and i, and gave t
 abbrev pub seen : Bool → Regulator → Input → Ticked → Tick
@@ -42,7 +42,7 @@ ticksFrom rest r (i ∷ is) =
 -- the list that a call opens: its own tick, which got r and i and gave t, and then the ticks of `later`. *At rest*, "for the first tick,
 -- the record handed in holds no asked command and no move".
 abbrev pub listFrom : Regulator → Input → Ticked → List Input → List Tick
-listFrom r i t later = seen (restsOf (r .drive)) r i t ∷ ticksFrom (restAfter (t .reply .outputs)) (t .next) later
+listFrom r i t later = seen (restsOf (r .state .drive)) r i t ∷ ticksFrom (restAfter (t .reply .outputs)) (t .next) later
 
 -- the ticks that a wait has lasted to a side: 0 where it is to the other
 abbrev pub heldFor : Direction → Wait → ℕ
@@ -54,4 +54,4 @@ heldFor Lower (For Lower n) = n
 
 -- what a list on the record r begins on
 abbrev pub opening : Regulator → Opening
-opening r = record { within = withinOf r; settings = r .settings; lowWait = heldFor Raise (r .wait); highWait = heldFor Lower (r .wait) }
+opening r = record { within = withinOf r; settings = r .settings; lowWait = heldFor Raise (r .state .memory .wait); highWait = heldFor Lower (r .state .memory .wait) }

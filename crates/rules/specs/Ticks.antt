@@ -9,92 +9,34 @@ use Rattle.slots.specs.Slots.{slot, inService}
 use Rattle.input.specs.declared.Contacts.{Contacts}
 use Rattle.input.specs.declared.Input.{Input}
 use Rattle.input.specs.Brought.{contactsOf}
-use Rattle.organ.specs.declared.Organs.{Organs}
-use Rattle.blocks.specs.declared.Blocks.{Blocks}
-use Rattle.ways.specs.declared.Way.{Way}
-use Rattle.record.specs.declared.Regulator.{Regulator}
-use Rattle.record.specs.Limits.{withinOf}
-use Rattle.record.specs.Starting.{freshOf}
-use Rattle.acting_accounting.specs.declared.Accounted.{Accounted}
-use Rattle.sensing.specs.declared.assessing.Assessed.{Assessed}
-use Rattle.acting_judging.specs.declared.Finding.{Finding}
-use Rattle.acting_commanding.specs.declared.Memory.{Memory}
-use Rattle.acting_commanding.specs.declared.Regulated.{Regulated}
-use Rattle.sensing.specs.declared.observing.Observed.{Observed}
-use Rattle.showing.specs.declared.Shown.{Shown}
-use Rattle.acting_supervising.specs.declared.Supervised.{Supervised}
-use Rattle.sensing.specs.Observing.{observedOf}
-use Rattle.sensing.specs.Protecting.{protectedOf}
-use Rattle.sensing.specs.Assessing.{assessedOf}
-use Rattle.acting_supervising.specs.Supervising.{supervisedOf}
-use Rattle.acting_judging.specs.Judging.{blockedOf}
-use Rattle.acting_commanding.specs.Commanding.{keysOf, regulatedOf, keptPressOf}
-use Rattle.acting_accounting.specs.Accounting.{accountedOf}
-use Rattle.showing.specs.Showing.{fieldCount, outputsOf}
+use Rattle.command.specs.declared.Memory.{Memory}
+use Rattle.sensing.specs.declared.Sensed.{Sensed}
+use Rattle.sensing.specs.Sensing.{sensedOf}
 use Rattle.rules.specs.declared.Acted.{Acted}
-use Rattle.rules.specs.declared.Sensed.{Sensed}
+use Rattle.rules.specs.Acting.{actedOf}
+use Rattle.showing.specs.declared.Shown.{Shown}
+use Rattle.showing.specs.Showing.{fieldCount, outputsOf}
+use Rattle.record.specs.declared.Regulator.{Regulator}
+use Rattle.record.specs.declared.State.{State}
+use Rattle.record.specs.Whole.{regulatorOf}
+use Rattle.record_limits.specs.Limits.{withinOf}
+use Rattle.record_starting.specs.Starting.{freshOf}
+use Rattle.rules.specs.declared.Stepped.{Stepped}
 use Rattle.rules.specs.declared.Ticked.{Ticked}
 
 -- ---- rules 3 to 6: what is there
 
--- rules 3 and 4: the section and the tap
-unfoldable pub observedIn : Regulator → Input → Contacts → Observed
-observedIn r i c = observedOf (r .settings) i (c .«breaker_closed») (r .«counted_tap»)
-
--- rule 5: the organs
-unfoldable pub protectedIn : Regulator → Observed → Organs
-protectedIn r o = protectedOf (r .settings) (r .organs) (o .readings) (o .section)
-
--- rule 6: the voltage and its side
-unfoldable pub assessedIn : Regulator → Input → Observed → Contacts → Assessed
-assessedIn r i o c = assessedOf (r .settings) (o .readings) (i .phasors) c
-
-unfoldable pub sensedOf : Regulator → Input → Contacts → Sensed
-sensedOf r i c =
-    record {
-      observed = observedIn r i c;
-      organs = protectedIn r (observedIn r i c);
-      assessed = assessedIn r i (observedIn r i c) c;
-    }
+abbrev pub sensedIn : Regulator → Input → Contacts → Sensed
+sensedIn r i c = sensedOf (r .settings) (r .state .organs) (r .state .wear .«counted_tap») i c
 
 -- ---- rules 2 and 7 to 9: what is done
 
--- what rules 7 and 8 go by of the rules before
-abbrev pub findingOf : Sensed → Finding
-findingOf x = record { section = x .observed .section; level = x .assessed .level; trips = x .organs .trips; tap = x .observed .position .tap }
+-- what rule 9 goes by of the ticks before
+abbrev pub memoryIn : Regulator → Memory
+memoryIn r = r .state .memory
 
--- rules 2 and 7: the drive and its faults
-unfoldable pub supervisedIn : Regulator → Contacts → Sensed → Supervised
-supervisedIn r c x = supervisedOf (r .settings) c (findingOf x) (r .drive) (r .latch) (r .last)
-
--- rule 8: the blocks
-unfoldable pub blockedIn : Regulator → Contacts → Sensed → Supervised → Blocks
-blockedIn r c x v = blockedOf (r .settings) c (v .latch .fault) (findingOf x)
-
--- what rule 9 remembers
-abbrev pub memoryOf : Regulator → Memory
-memoryOf r = record { drive = r .drive; wait = r .wait; repeat = r .repeat; keys = r .keys; remembered = r .remembered }
-
--- rule 9: the command and its delay
-unfoldable pub regulatedIn : Regulator → Contacts → Sensed → Supervised → Regulated
-regulatedIn r c x v = regulatedOf (r .settings) c (x .assessed) (blockedIn r c x v) (memoryOf r) (v .drive)
-
--- 02, ticket 6: the press that is remembered after the tick
-unfoldable pub rememberedIn : Regulator → Contacts → Supervised → Way
-rememberedIn r c v = keptPressOf c (v .latch .fault) (memoryOf r)
-
--- rule 7, at tick end: what an ended move leaves
-unfoldable pub accountedIn : Regulator → Supervised → Accounted
-accountedIn r v = accountedOf (r .settings) (v .ended) (v .operation) (r .last) (r .operations) (r .«counted_tap»)
-
-unfoldable pub actedOf : Regulator → Contacts → Sensed → Acted
-actedOf r c x =
-    record {
-      supervised = supervisedIn r c x;
-      blocks = blockedIn r c x (supervisedIn r c x);
-      regulated = regulatedIn r c x (supervisedIn r c x);
-      accounted = accountedIn r (supervisedIn r c x);
-    }
+abbrev pub actedIn : Regulator → Contacts → Sensed → Acted
+actedIn r c x = actedOf (r .settings) c x (r .state .drive) (r .state .latch) (memoryIn r) (r .state .wear)
 
 -- ---- rule 10 and the outputs; the next record
 
@@ -111,35 +53,29 @@ shownOf c x y =
       latch = y .supervised .latch;
       before = y .supervised .before;
       drive = y .regulated .drive;
-      operations = y .accounted .operations;
+      operations = y .accounted .wear .operations;
     }
 
-unfoldable pub nextOf : Regulator → Contacts → Sensed → Acted → Regulator
-nextOf r c x y =
+abbrev pub stateOf : Sensed → Acted → State
+stateOf x y =
     record {
-      settings = r .settings;
       organs = x .organs .organs;
       drive = y .regulated .drive;
       latch = y .supervised .latch;
-      wait = y .regulated .wait;
-      repeat = y .regulated .repeat;
-      last = y .accounted .last;
-      «counted_tap» = y .accounted .tap;
-      operations = y .accounted .operations;
-      keys = keysOf c;
-      remembered = rememberedIn r c (y .supervised);
+      memory = y .regulated .memory;
+      wear = y .accounted .wear;
     }
 
 unfoldable pub endOf : Regulator → Contacts → Sensed → Acted → Ticked
 endOf r c x y =
     record {
       reply = record { refusal = 0; outputs = outputsOf (r .settings) (shownOf c x y) };
-      next = nextOf r c x y;
+      next = regulatorOf (r .settings) (stateOf x y);
     }
 
 -- rules 2 to 10, on a record in service
 unfoldable pub ranOf : Regulator → Input → Contacts → Ticked
-ranOf r i c = endOf r c (sensedOf r i c) (actedOf r c (sensedOf r i c))
+ranOf r i c = endOf r c (sensedIn r i c) (actedIn r c (sensedIn r i c))
 
 -- ---- rule 1, and the refusal
 
@@ -162,3 +98,7 @@ refusedOf r = record { reply = record { refusal = 4; outputs = allOff }; next = 
 -- the tick
 unfoldable pub tickOf : Regulator → Input → Ticked
 tickOf r i = choose (withinOf r) (choose (isOut r (contactsOf (i .contacts))) (outOf r) (ranOf r i (contactsOf (i .contacts)))) (refusedOf r)
+
+-- what a tick answers and leaves but for the settings, which no tick changes (`rules/proofs/Steps.antt`)
+abbrev pub steppedOf : Ticked → Stepped
+steppedOf t = record { reply = t .reply; state = t .next .state }

@@ -1,13 +1,11 @@
-// What one tick hands on, stage by stage: the types of the rules. The rules themselves are definitions (`specs/Ticks.antt`), and
-// what is promised of lists of ticks is proved of them here; the code is crate `regulator`.
+// What a tick does, answers and leaves: the types of the rules. The rules themselves are definitions (`specs/Ticks.antt`), and what is
+// promised of lists of ticks is proved of them here; the code is crate `regulator`.
 use acting_accounting::Accounted;
 use acting_commanding::Regulated;
 use acting_supervising::Supervised;
 use blocks::Blocks;
-use organ::Organs;
 use record::Regulator;
-use sensing::assessing::Assessed;
-use sensing::observing::Observed;
+use record::State;
 use showing::FIELDS;
 
 // What a tick answers: 0, or the refusal 4 with outputs all 0.
@@ -22,14 +20,13 @@ pub struct Ticked {
     pub next: Regulator,
 }
 
-// Rules 3 to 6.
-pub struct Sensed {
-    pub observed: Observed,
-    pub organs: Organs,
-    pub assessed: Assessed,
+// The same but for the settings, which no tick changes: the answer, and the next state.
+pub struct Stepped {
+    pub reply: Reply,
+    pub state: State,
 }
 
-// Rules 2 and 7 to 9.
+// What is done: rules 2 and 7, 8, 9, and what an ended move leaves.
 pub struct Acted {
     pub supervised: Supervised,
     pub blocks: Blocks,

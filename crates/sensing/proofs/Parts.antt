@@ -5,7 +5,7 @@ use Prim.Native.Nat.{ℕ}
 use Rattle.common.proofs.Cases.{cases}
 use Rattle.measure.specs.declared.Measured.{Measured}
 use Rattle.measure.specs.declared.Measured.the-variants as measured
-use Rattle.busbar.specs.declared.voltage.Level.the-variants.{Missing}
+use Rattle.busbar_level.specs.declared.Level.the-variants.{Missing}
 use Rattle.sensing.specs.Protecting.{amountOf}
 
 module _ (r : ℕ) (m : Measured) where

@@ -8,9 +8,9 @@ use Rattle.phasor.specs.declared.Phasors.{Phasors}
 use Rattle.line.specs.Along.{alongOf}
 use Rattle.input.specs.declared.Contacts.{Contacts}
 use Rattle.input.specs.declared.Readings.{Readings}
-use Rattle.busbar.specs.Voltage.{voltageOf}
-use Rattle.busbar.specs.Deviation.{supplyOf, levelOf, farAbove}
-use Rattle.busbar.specs.declared.voltage.Value.{Value}
+use Rattle.busbar_compensation.specs.Voltage.{voltageOf}
+use Rattle.busbar_deviation.specs.Deviation.{supplyOf, levelOf, farAbove}
+use Rattle.busbar_current.specs.declared.Value.{Value}
 use Rattle.sensing.specs.declared.assessing.Assessed.{Assessed}
 
 -- the voltage U of the tick. 02, ticket 3: "Slot 3 takes 2": U is then the one along the line's impedance, and the reading U_AB has no

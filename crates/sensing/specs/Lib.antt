@@ -1,3 +1,4 @@
 pub mod Observing
 pub mod Protecting
 pub mod Assessing
+pub mod Sensing

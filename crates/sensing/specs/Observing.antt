@@ -7,8 +7,8 @@ use Rattle.slots.specs.Slots.{slot, moduleKind}
 use Rattle.input.specs.declared.Input.{Input}
 use Rattle.input.specs.declared.Readings.{Readings}
 use Rattle.input.specs.Brought.{readingsOf}
-use Rattle.busbar.specs.Section.{sectionOf}
-use Rattle.tap.specs.Positions.{positionOf}
+use Rattle.busbar_section.specs.Section.{sectionOf}
+use Rattle.tap_position.specs.Positions.{positionOf}
 use Rattle.sensing.specs.declared.observing.Observed.{Observed}
 
 -- the readings as they count, by the module of slot 1

@@ -1,8 +1,8 @@
 // Rule 6: the voltage against the band around U_supp.
 ghost use mathlib.Core.Path.{_≡_};
 ghost use Rattle.sensing.specs.Assessing.{uOf, assessedOf};
-use busbar::voltage::Level;
-use busbar::voltage::Value;
+use busbar_current::Value;
+use busbar_level::Level;
 use input::Contacts;
 use input::Readings;
 use phasor::Phasors;
@@ -25,7 +25,7 @@ fn u_of(s: &[u32; SLOTS], x: Readings, p: Phasors) -> Value
     let u_ab = x.u_ab;
     let i_bus = x.i_bus;
     let i_coupler = x.i_coupler;
-    busbar::voltage::voltage(s, u_ab, i_bus, i_coupler)
+    busbar_compensation::voltage(s, u_ab, i_bus, i_coupler)
 }
 
 // Rule 6.
@@ -33,9 +33,9 @@ pub fn assess(s: &[u32; SLOTS], x: Readings, p: Phasors, c: Contacts) -> Assesse
     ensures { λ r. ⌜ r ≡ assessedOf (now (s .entry)) x p c ⌝ }
 {
     let u = u_of(s, x, p);
-    let u_supp = busbar::voltage::supply_voltage(s, c.u_supp2, c.u_supp3, c.u_supp4);
-    let level = busbar::voltage::judge_level(s, u, u_supp);
-    let far = busbar::voltage::far_above(s, u);
+    let u_supp = busbar_deviation::supply_voltage(s, c.u_supp2, c.u_supp3, c.u_supp4);
+    let level = busbar_deviation::judge_level(s, u, u_supp);
+    let far = busbar_deviation::far_above(s, u);
     Assessed {
         level: level,
         far: far,

@@ -5,7 +5,7 @@ use input::Input;
 use input::Readings;
 use slots::MODULE;
 use slots::SLOTS;
-use tap::position::Position;
+use tap_position::Position;
 
 pub struct Observed {
     pub readings: Readings,
@@ -19,8 +19,8 @@ pub fn observe(s: &[u32; SLOTS], i: Input, breaker_closed: bool, counted: u32) -
 {
     let readings = input::measure_all(i, s[MODULE] == 1);
     let i_bus = readings.i_bus;
-    let section = busbar::section::section(s, breaker_closed, i_bus);
-    let position = tap::position::read_position(s, i.bcd, i.sensor, counted);
+    let section = busbar_section::section(s, breaker_closed, i_bus);
+    let position = tap_position::read_position(s, i.bcd, i.sensor, counted);
     Observed {
         readings: readings,
         section: section,

@@ -1,43 +1,20 @@
 -- What is answered, case by case, over plain values.
 -- Assumes nothing.
 use mathlib.Core.Path.{_≡_, refl, sym, _∙_, ap}
-use mathlib.Core.Bool.{Bool, true, false, not, _&&_, _||_}
+use mathlib.Core.Bool.{Bool, true, false, not, _&&_}
 use mathlib.Core.List.{List}
-use Prim.Native.Nat.{ℕ, _-_, _%_, _<_, _≤_}
-use lib.Dec.{leb, eqb}
+use Prim.Native.Nat.{ℕ, _<_, _≤_}
+use lib.Dec.{leb}
 use lib.ListN.{length}
-use native.Mathlib.Nat.{mod-one}
-use borrow.Author.Tests.{eqb-true, lt-ltb, le-ltb, le-leb, lt-leb, eq-eqb, ne-eqb}
+use borrow.Author.Tests.{lt-ltb, le-ltb, le-leb, lt-leb, eq-eqb, ne-eqb}
 use Rattle.common.specs.Choice.{choose}
 use Rattle.common.proofs.Cases.{yes, no}
 use Rattle.slots.specs.Slots.{slot, nPos, nR, nL, slots}
-use Rattle.sheet.specs.Table.{takenBy}
-use Rattle.sheet.specs.Sheet.{isTaken, firstOutOfRange, wrongLength, outOfRange, endsCrossed, posOutside, countedTap, judgeOf, passesOf, answerOf, zeros, sheetWith, sheetOf, replyOf, returnedOf}
+use Rattle.sheet_ranges.specs.Ranges.{firstOutOfRange}
+use Rattle.sheet.specs.Sheet.{isTaken, wrongLength, outOfRange, endsCrossed, posOutside, countedTap, judgeOf, passesOf, answerOf, zeros, sheetWith, sheetOf, replyOf, returnedOf}
 use Rattle.sheet.specs.declared.Answer.{Answer}
 use Rattle.sheet.specs.declared.Answer.the-variants.{Taken, WrongLength, OutOfRange, TapOrder, CountedTap}
 use Rattle.sheet.specs.declared.Sheet.{Sheet}
-
--- a number against a range
-module _ (l h d x : ℕ) where
-  pub too-low : x < l → false ≡ takenBy l h d x
-  unfolding takenBy
-  too-low t = rw (lt-leb l x t)
-
-  module _ (a : l ≤ x) where
-    pub too-high : h < x → false ≡ takenBy l h d x
-    unfolding takenBy
-    too-high t = rw (le-leb l x a, lt-leb x h t)
-
-    module _ (b : x ≤ h) where
-      pub by-one : d ≡ 1 → true ≡ takenBy l h d x
-      unfolding takenBy
-      by-one e = rw (le-leb l x a, le-leb x h b, e, mod-one (x - l))
-
-      pub by-hundred : (d ≡ 1 → ⊥) → (eqb d 1 || eqb d 100) ≡ true → eqb ((x - l) % 100) 0 ≡ takenBy l h d x
-      unfolding takenBy
-      by-hundred n e =
-          let f : d ≡ 100 = eqb-true d 100 (rw (ne-eqb d 1 n) at e) in
-          rw (le-leb l x a, le-leb x h b, f)
 
 -- a sheet is made
 module _ (a : Answer) (s : List ℕ) {t : Bool} (e : t ≡ isTaken a) where

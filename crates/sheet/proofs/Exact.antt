@@ -4,68 +4,20 @@ use mathlib.Core.Path.{_≡_, refl, sym, _∙_, ap}
 use mathlib.Core.Bool.{Bool, true, false, _||_, true≢false}
 use mathlib.Core.Logic.{_⊎_, inl, inr, _↔_, ⊎-elim}
 use mathlib.Core.List.{List}
-use Prim.Native.Nat.{ℕ, zero, suc, _+_, _-_, _*_, _/_, _%_, _<_, _≤_}
-use native.Mathlib.Nat.{div-add-mod', mul-mod-left, eq-or-lt-of-le}
+use Prim.Native.Nat.{ℕ, _<_, _≤_}
 use native.Mathlib.Omega.{arith}
 use lib.Dec.{leb, eqb}
 use borrow.Author.Tests.{ltb-false, leb-true, leb-false, le-leb, eqb-true, eq-eqb, not-false}
 use Rattle.common.specs.Choice.{choose}
-use Rattle.common.proofs.Cases.{yes, no}
 use Rattle.slots.specs.Slots.{slot, tapSource, nPos, nR, nL, continuous, isContinuous, slots}
-use Rattle.sheet.specs.Table.{lowOf, highOf, stepOf, takenOf, takenBy, Taking}
-use Rattle.sheet.specs.Sheet.{firstFrom, takenIn, firstOutOfRange, countedTap, judgeOf, answerOf, sheetWith, sheetOf, replyOf, returnedOf}
+use Rattle.sheet_ranges.specs.Ranges.{takenIn, firstOutOfRange}
+use Rattle.sheet_ranges.proofs.Numbers.{taken-taking, taking-taken, holds-below, holds-at-all}
+use Rattle.sheet.specs.Sheet.{countedTap, judgeOf, answerOf, sheetWith, sheetOf, replyOf, returnedOf}
 use Rattle.sheet.specs.Settings.{Settings}
 use Rattle.sheet.specs.declared.Answer.the-variants.{Taken, WrongLength, OutOfRange, TapOrder, CountedTap}
 use Rattle.sheet.specs.declared.Sheet.{Sheet}
 use Rattle.common.proofs.Joined.{split, and-left, and-right, and-both, or-true, or-is}
 use Rattle.sheet.proofs.Answers.{within, answer-right, not-refused, returned}
-
--- a number that the test takes is low + a whole multiple of the step, up to high, and no other is
-module _ (k i x : ℕ) where
-  pub taken-taking : takenOf k i x ≡ true → Taking k i x
-  unfolding takenOf takenBy
-  taken-taking e =
-      let l : lowOf k i ≤ x = leb-true _ _ (and-left _ _ e) in
-      let r = and-right (leb (lowOf k i) x) _ e in
-      let m : (x - lowOf k i) % stepOf i ≡ 0 = eqb-true _ _ (and-right (leb x (highOf k i)) _ r) in
-      let d : (x - lowOf k i) / stepOf i * stepOf i + (x - lowOf k i) % stepOf i ≡ x - lowOf k i = div-add-mod' (x - lowOf k i) (stepOf i) in
-      ((x - lowOf k i) / stepOf i, omega arith, leb-true _ _ (and-left _ _ r))
-
-  pub taking-taken : Taking k i x → takenOf k i x ≡ true
-  unfolding takenOf takenBy
-  taking-taken t =
-      let n = t .0 in
-      let e : x ≡ lowOf k i + n * stepOf i = t .1 in
-      let l : lowOf k i ≤ x = omega arith in
-      let d : x - lowOf k i ≡ n * stepOf i = omega arith in
-      let m : (x - lowOf k i) % stepOf i ≡ 0 = rw d (mul-mod-left n (stepOf i)) in
-      and-both _ _ (le-leb _ _ l) (and-both _ _ (le-leb _ _ (t .2)) (eq-eqb _ _ m))
-
--- below the lowest number at which a test fails it holds, and where it holds at all n numbers there is none
-module _ (f : ℕ → Bool) where
-  on : (n i : ℕ) → f i ≡ true → firstFrom f (suc n) i ≡ firstFrom f n (suc i)
-  unfolding firstFrom
-  on n i e = sym (yes _ _ _ _ e refl)
-
-  off : (n i : ℕ) → f i ≡ false → firstFrom f (suc n) i ≡ i
-  unfolding firstFrom
-  off n i e = sym (no _ _ _ _ e refl)
-
-  pub holds-below : (n i j : ℕ) → i ≤ j → j < firstFrom f n i → f j ≡ true
-  unfolding firstFrom
-  holds-below zero i j h l = absurd (omega arith)
-  holds-below (suc n) i j h l = go (f i) refl (holds-below n (suc i) j)
-    where
-      go : (b : Bool) → f i ≡ b → (suc i ≤ j → j < firstFrom f n (suc i) → f j ≡ true) → f j ≡ true
-      go true e rest =
-          ⊎-elim (λ (p : i ≡ j). ap f (sym p) ∙ e) (λ (p : i < j). rest p (rw (on n i e) at l)) (eq-or-lt-of-le h)
-      go false e rest = absurd (let z : firstFrom f (suc n) i ≡ i = off n i e in omega arith)
-
-  pub holds-at-all : (n i : ℕ) → ((j : ℕ) → i ≤ j → j < i + n → f j ≡ true) → firstFrom f n i ≡ i + n
-  unfolding firstFrom
-  holds-at-all zero i h = omega arith
-  holds-at-all (suc n) i h =
-      on n i (h i (omega arith) (omega arith)) ∙ holds-at-all n (suc i) (λ j p q. h j (omega arith) (omega arith)) ∙ omega arith
 
 -- what a choice gives, where it does not give the first, is the second
 passed-by : {A : Type 0} (b : Bool) (x y z : A) → choose b x y ≡ z → (x ≡ z → ⊥) → (b ≡ false) × (y ≡ z)

@@ -10,13 +10,14 @@ use lib.Dec.{leb, ltb}
 use borrow.Author.Tests.{leb-true, ltb-true}
 use Rattle.common.specs.Choice.{choose}
 use Rattle.slots.specs.Slots.{slot, resistance, reactance, ctRating, breakerRating, t1, t2, t3, t4, t5, t6, t7, t8, organDelays, organLimits, uSupp, dU, uComp, uSet5, nPos, nR, nL, nStart, nMax, slidingTaps, slots}
-use Rattle.sheet.specs.Table.{Row, rowOf, rowIn, moduleFactor, factorOf, lowOf, highOf, takenOf, takenBy}
-use Rattle.sheet.specs.Sheet.{isTaken, takenIn, judgeOf, passesOf, answerOf}
+use Rattle.sheet_ranges.specs.Table.{Row, mostTicks, mostTap, rowOf, rowIn, moduleFactor, factorOf, lowOf, highOf, takenOf, takenBy}
+use Rattle.sheet_ranges.specs.Ranges.{takenIn}
+use Rattle.sheet.specs.Sheet.{isTaken, judgeOf, passesOf, answerOf}
 use Rattle.sheet.specs.declared.Answer.{Answer}
 use Rattle.sheet.specs.declared.Answer.the-variants.{Taken, WrongLength, OutOfRange, TapOrder, CountedTap}
 use Rattle.common.proofs.Joined.{and-left, and-right}
-use Rattle.sheet.proofs.Every.{allBelow, every}
-use Rattle.sheet.proofs.Tables.{with-module}
+use Rattle.sheet_ranges.proofs.Every.{allBelow, every}
+use Rattle.sheet_ranges.proofs.Tables.{with-module}
 use Rattle.sheet.proofs.Exact.{Kept, judged-kept, exact}
 use Rattle.sheet.proofs.Answers.{answer-right}
 
@@ -74,43 +75,43 @@ module _ (s : List ℕ) (e : passesOf s ≡ true) where
   in-run a n l h t j p = in-row l h (a + j) (every (λ (j : ℕ). slotWithin l h (a + j)) n t j p)
 
   -- T1–T5
-  pub t1-range : (20 ≤ slot s t1) × (slot s t1 ≤ 36000)
+  pub t1-range : (20 ≤ slot s t1) × (slot s t1 ≤ mostTicks)
   unfolding rowOf rowIn choose
-  t1-range = in-run t1 1 20 36000 refl 0 (omega arith)
+  t1-range = in-run t1 1 20 mostTicks refl 0 (omega arith)
 
-  pub t2-range : (20 ≤ slot s t2) × (slot s t2 ≤ 36000)
+  pub t2-range : (20 ≤ slot s t2) × (slot s t2 ≤ mostTicks)
   unfolding rowOf rowIn choose
-  t2-range = in-run t2 1 20 36000 refl 0 (omega arith)
+  t2-range = in-run t2 1 20 mostTicks refl 0 (omega arith)
 
-  pub t3-range : (20 ≤ slot s t3) × (slot s t3 ≤ 36000)
+  pub t3-range : (20 ≤ slot s t3) × (slot s t3 ≤ mostTicks)
   unfolding rowOf rowIn choose
-  t3-range = in-run t3 1 20 36000 refl 0 (omega arith)
+  t3-range = in-run t3 1 20 mostTicks refl 0 (omega arith)
 
-  pub t4-range : (20 ≤ slot s t4) × (slot s t4 ≤ 36000)
+  pub t4-range : (20 ≤ slot s t4) × (slot s t4 ≤ mostTicks)
   unfolding rowOf rowIn choose
-  t4-range = in-run t4 1 20 36000 refl 0 (omega arith)
+  t4-range = in-run t4 1 20 mostTicks refl 0 (omega arith)
 
-  pub t5-range : (20 ≤ slot s t5) × (slot s t5 ≤ 36000)
+  pub t5-range : (20 ≤ slot s t5) × (slot s t5 ≤ mostTicks)
   unfolding rowOf rowIn choose
-  t5-range = in-run t5 1 20 36000 refl 0 (omega arith)
+  t5-range = in-run t5 1 20 mostTicks refl 0 (omega arith)
 
   -- T6, T7
-  pub t6-most : slot s t6 ≤ 36000
+  pub t6-most : slot s t6 ≤ mostTicks
   unfolding rowOf rowIn choose
-  t6-most = in-run t6 1 0 36000 refl 0 (omega arith) .1
+  t6-most = in-run t6 1 0 mostTicks refl 0 (omega arith) .1
 
-  pub t7-most : slot s t7 ≤ 36000
+  pub t7-most : slot s t7 ≤ mostTicks
   unfolding rowOf rowIn choose
-  t7-most = in-run t7 1 0 36000 refl 0 (omega arith) .1
+  t7-most = in-run t7 1 0 mostTicks refl 0 (omega arith) .1
 
   pub t8-range : (20 ≤ slot s t8) × (slot s t8 ≤ 2000)
   unfolding rowOf rowIn choose
   t8-range = in-run t8 1 20 2000 refl 0 (omega arith)
 
   -- T9–T15
-  pub delay-most : (j : ℕ) → j < 7 → slot s (organDelays + j) ≤ 36000
+  pub delay-most : (j : ℕ) → j < 7 → slot s (organDelays + j) ≤ mostTicks
   unfolding rowOf rowIn choose
-  delay-most j h = in-run organDelays 7 0 36000 refl j h .1
+  delay-most j h = in-run organDelays 7 0 mostTicks refl j h .1
 
   -- I_set1 to 3, U_set1 to 4
   pub limit-range : (j : ℕ) → j < 7 → (50 ≤ slot s (organLimits + j)) × (slot s (organLimits + j) ≤ 200000)
@@ -141,9 +142,9 @@ module _ (s : List ℕ) (e : passesOf s ≡ true) where
   unfolding rowOf rowIn choose
   nMax-range = in-run nMax 1 1 500000 refl 0 (omega arith)
 
-  pub sliding-most : (j : ℕ) → j < 10 → slot s (slidingTaps + j) ≤ 40
+  pub sliding-most : (j : ℕ) → j < 10 → slot s (slidingTaps + j) ≤ mostTap
   unfolding rowOf rowIn choose
-  sliding-most j h = in-run slidingTaps 10 0 40 refl j h .1
+  sliding-most j h = in-run slidingTaps 10 0 mostTap refl j h .1
 
   -- R and X
   pub resistance-most : slot s resistance ≤ 400000
@@ -164,7 +165,7 @@ module _ (s : List ℕ) (e : passesOf s ≡ true) where
   breaker-range = in-run breakerRating 1 1 20000 refl 0 (omega arith)
 
   -- 1 ≤ N_L < N_R ≤ 40, and N_pos within
-  pub taps-range : (1 ≤ slot s nL) × (slot s nL < slot s nR) × (slot s nR ≤ 40) × (slot s nL ≤ slot s nPos) × (slot s nPos ≤ slot s nR)
+  pub taps-range : (1 ≤ slot s nL) × (slot s nL < slot s nR) × (slot s nR ≤ mostTap) × (slot s nL ≤ slot s nPos) × (slot s nPos ≤ slot s nR)
   unfolding rowOf rowIn choose
   taps-range =
-      (in-run nL 1 1 40 refl 0 (omega arith) .0, kept .ends, in-run nR 1 1 40 refl 0 (omega arith) .1, kept .above, kept .below)
+      (in-run nL 1 1 mostTap refl 0 (omega arith) .0, kept .ends, in-run nR 1 1 mostTap refl 0 (omega arith) .1, kept .above, kept .below)

@@ -1,8 +1,7 @@
 -- What worked lists compute with, under one name: the definitions of this crate, and what is below them.
-use Rattle.common.proofs.Opened as of-common
-use Rattle.sheet.specs.Sheet.{firstFrom, takenIn, firstOutOfRange, judgeOf, passesOf}
-use Rattle.sheet.specs.Table.{rowIn, rowOf, moduleFactor, factorOf, lowOf, highOf, stepOf, takenOf, takenBy}
+use Rattle.sheet_ranges.proofs.Opened as of-sheet-ranges
+use Rattle.sheet.specs.Sheet.{judgeOf, passesOf}
 
 unfoldable pub opened : Unit {0}
-unfolding firstFrom takenIn firstOutOfRange judgeOf passesOf rowIn rowOf moduleFactor factorOf lowOf highOf stepOf takenOf takenBy of-common.opened
+unfolding judgeOf passesOf of-sheet-ranges.opened
 opened = tt

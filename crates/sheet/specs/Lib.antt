@@ -1,4 +1,2 @@
-pub mod Table
-pub mod Columns
 pub mod Sheet
 pub mod Settings

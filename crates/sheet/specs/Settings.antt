@@ -5,7 +5,7 @@ use mathlib.Core.List.{List}
 use mathlib.Core.Logic.{_⊎_}
 use lib.ListN.{length}
 use Rattle.slots.specs.Slots.{slot, slots, tapSource, nPos, nR, nL, continuous}
-use Rattle.sheet.specs.Table.{Taking, moduleFactor}
+use Rattle.sheet_ranges.specs.Table.{Taking, moduleFactor}
 
 pub record Settings (s : List ℕ) : Type 0 where
   pub size : length s ≡ slots

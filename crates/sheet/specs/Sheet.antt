@@ -1,12 +1,12 @@
 -- What the check of a list answers: the paper's table of refusals, with 5 of 02, ticket 2.
-use Prim.Native.Nat.{ℕ, zero, suc}
+use Prim.Native.Nat.{ℕ}
 use mathlib.Core.Bool.{Bool, true, false, not, _&&_, _||_}
 use mathlib.Core.List.{List, [], _∷_}
 use lib.Dec.{leb, ltb, eqb}
 use lib.ListN.{length, replicate}
 use Rattle.common.specs.Choice.{choose}
 use Rattle.slots.specs.Slots.{slot, slots, tapSource, nPos, nR, nL, continuous, isContinuous}
-use Rattle.sheet.specs.Table.{takenOf, moduleFactor}
+use Rattle.sheet_ranges.specs.Ranges.{firstOutOfRange}
 use Rattle.sheet.specs.declared.Answer.{Answer}
 use Rattle.sheet.specs.declared.Answer.the-variants.{Taken, WrongLength, OutOfRange, TapOrder, CountedTap}
 use Rattle.sheet.specs.declared.Sheet.{Sheet}
@@ -33,19 +33,6 @@ isTaken WrongLength = false
 isTaken (OutOfRange i) = false
 isTaken (TapOrder i) = false
 isTaken CountedTap = false
-
--- the lowest of the n numbers from i at which the test fails; i + n where it never does
-unfoldable pub firstFrom : (ℕ → Bool) → ℕ → ℕ → ℕ
-firstFrom f zero i = i
-firstFrom f (suc n) i = choose (f i) (firstFrom f n (suc i)) i
-
--- whether the number at the slot is taken
-unfoldable pub takenIn : List ℕ → ℕ → Bool
-takenIn s i = takenOf (moduleFactor s) i (slot s i)
-
--- the lowest slot that is out of range; the number of slots where none is
-unfoldable pub firstOutOfRange : List ℕ → ℕ
-firstOutOfRange s = firstFrom (takenIn s) slots 0
 
 -- the causes, as the paper's table has them
 -- 'list not 63 long'; 02, ticket 5: 'the sheet is 68 long'

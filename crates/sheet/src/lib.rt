@@ -1,33 +1,17 @@
 // The setting sheet: a list of numbers, each checked against its range, then the order of the taps, and then whether the taps
 // can be counted.
-mod ranges;
-
-use ranges::HIGH;
-use ranges::LOW;
-use ranges::STEP;
+ghost use mathlib.Core.Path.{_≡_};
+ghost use mathlib.Core.Logic.{_↔_};
+ghost use lib.ListN.{length};
+ghost use Rattle.slots.specs.Slots.{slots};
+ghost use Rattle.sheet.specs.Sheet.{numberOf, slotOf, isTaken, judgeOf, passesOf, sheetWith, sheetOf, replyOf, returnedOf};
+ghost use Rattle.sheet.specs.Settings.{Settings};
 use slots::CONTINUOUS;
-use slots::I_SET1;
-use slots::I_SET2;
-use slots::I_SET3;
-use slots::MODULE;
 use slots::N_L;
 use slots::N_POS;
 use slots::N_R;
-use slots::REACTANCE;
-use slots::RESISTANCE;
 use slots::SLOTS;
 use slots::TAP_SOURCE;
-ghost use mathlib.Core.Path.{_≡_};
-ghost use mathlib.Core.Logic.{_↔_};
-ghost use Prim.Native.Nat.{_≤_};
-ghost use mathlib.Core.Bool.{true, _||_};
-ghost use lib.Dec.{eqb};
-ghost use lib.ListN.{length};
-ghost use Rattle.sheet.specs.Table.{moduleFactor, takenBy};
-ghost use Rattle.sheet.specs.Columns.{Scalable, timesK};
-ghost use Rattle.sheet.specs.Sheet.{numberOf, slotOf, isTaken, firstOutOfRange, judgeOf, passesOf, sheetWith, sheetOf, replyOf, returnedOf};
-ghost use Rattle.slots.specs.Slots.{slots};
-ghost use Rattle.sheet.specs.Settings.{Settings};
 
 // What the check of a list answers.
 pub enum Answer {
@@ -45,69 +29,11 @@ pub struct Sheet {
     pub settings: [u32; SLOTS],
 }
 
-// k, the factor of the current rows: 5 for a 5 A module, else 1.
-pub fn module_factor(s: &[u32; SLOTS]) -> u32
-    ensures { λ r. ⌜ r ≡ moduleFactor (now (s .entry)) ⌝ }
-{
-    if s[MODULE] == 1 { 5 } else { 1 }
-}
-
-// A column of the table with its current rows times k and its impedance rows times 5 / k.
-fn times_k(column: [u32; SLOTS], k: u32) -> [u32; SLOTS]
-    requires { ⌜ (1 ≤ k) × (k ≤ 5) × Scalable column ⌝ }
-    ensures { λ r. ⌜ r ≡ timesK k column ⌝ }
-{
-    let inverse = 5 / k;
-    let mut scaled = column;
-    scaled[I_SET1] = column[I_SET1] * k;
-    scaled[I_SET2] = column[I_SET2] * k;
-    scaled[I_SET3] = column[I_SET3] * k;
-    scaled[RESISTANCE] = column[RESISTANCE] * inverse;
-    scaled[REACTANCE] = column[REACTANCE] * inverse;
-    scaled
-}
-
-// Whether the number is low + a whole multiple of the step, up to high. A step is 1 or 100: no division by a number that is
-// not known beforehand.
-fn in_range(low: u32, high: u32, step: u32, x: u32) -> bool
-    requires { ⌜ (eqb step 1 || eqb step 100) ≡ true ⌝ }
-    ensures { λ r. ⌜ r ≡ takenBy low high step x ⌝ }
-{
-    if x < low {
-        return false;
-    }
-    if high < x {
-        return false;
-    }
-    if step == 1 {
-        return true;
-    }
-    (x - low) % 100 == 0
-}
-
-// The lowest slot that is out of range, or the number of slots. The columns are made and scaled once, before the loop.
-fn first_out_of_range(s: &[u32; SLOTS]) -> usize
-    ensures { λ r. ⌜ r ≡ firstOutOfRange (now (s .entry)) ⌝ }
-{
-    let k = module_factor(s);
-    let lows = times_k(LOW, k);
-    let highs = times_k(HIGH, k);
-    let steps = STEP;
-    let mut i: usize = 0;
-    while i < SLOTS {
-        if !in_range(lows[i], highs[i], steps[i], s[i]) {
-            return i;
-        }
-        i += 1;
-    }
-    i
-}
-
 // The answer to a list of the right length.
 fn judge(s: &[u32; SLOTS]) -> Answer
     ensures { λ r. ⌜ r ≡ judgeOf (now (s .entry)) ⌝ }
 {
-    let first = first_out_of_range(s);
+    let first = sheet_ranges::first_out_of_range(s);
     let right = s[N_R];
     let left = s[N_L];
     let pos = s[N_POS];

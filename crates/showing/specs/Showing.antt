@@ -6,8 +6,8 @@ use lib.ListN.{getD}
 use lib.Dec.{leb, eqb}
 use Rattle.common.specs.Choice.{choose}
 use Rattle.slots.specs.Slots.{slot, supplyTrip, wearCount, t7, t8, nMax}
-use Rattle.busbar.specs.declared.voltage.Level.{Level}
-use Rattle.busbar.specs.declared.voltage.Level.the-variants.{Missing, Low, InBand, High}
+use Rattle.busbar_level.specs.declared.Level.{Level}
+use Rattle.busbar_level.specs.declared.Level.the-variants.{Missing, Low, InBand, High}
 use Rattle.drive_follow.specs.Follow.{restsOf}
 use Rattle.fault.specs.Latches.{supplyOf, fieldOf}
 use Rattle.drive_shown.specs.Shown.{onOf}

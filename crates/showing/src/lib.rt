@@ -2,7 +2,7 @@
 ghost use mathlib.Core.Path.{_≡_};
 ghost use Rattle.showing.specs.Showing.{isLow, isHigh, countedOf, signalsOf, fieldsOf, outputsOf};
 use blocks::Blocks;
-use busbar::voltage::Level;
+use busbar_level::Level;
 use drive::Drive;
 use fault::Latch;
 use slots::N_MAX;
@@ -11,7 +11,7 @@ use slots::SUPPLY_TRIP;
 use slots::T7;
 use slots::T8;
 use slots::WEAR_COUNT;
-use tap::position::Position;
+use tap_position::Position;
 
 // The number of output fields.
 pub const FIELDS: usize = 28;

@@ -1,1 +1,1 @@
-pub mod Magnitudes
+mod Magnitudes

@@ -2,25 +2,19 @@
 -- Assumes nothing.
 use mathlib.Core.Path.{_≡_, ap, _∙_}
 use mathlib.Core.Bool.{true, false, true≢false}
-use Prim.Native.Nat.{ℕ, suc, _+_, _<_, _≤_, _^_}
-use native.Mathlib.Nat.{le-of-lt, lt-of-le-of-lt}
+use Prim.Native.Nat.{ℕ, suc, _+_, _<_, _^_}
+use native.Mathlib.Nat.{le-of-lt}
 use native.Mathlib.Omega.{arith}
 use borrow.Author.Needs.{needs}
 use borrow.Author.Tests.{ltb-true, le-leb, le-ltb}
-use lib.Dec.{T, lit≤, lit<}
+use lib.Dec.{T}
 use lib.IntN.{ℤ, pos, negsuc, natAbs, _-ℤ_}
 use lib.Signed.{ltZ, nonNeg}
 use lib.Ieee.{binary32, inFloat}
 use mir.Syntax.{w64}
 use mir.Val.{Fits, SFits}
 use mir.Facts.{toZ-ofZ, fits-le, fits-lit}
-use Rattle.common.proofs.Signed.{Stands, exactly, literal, small, fits, read, back, sub}
-use Rattle.phasor.specs.declared.Vector.{Vector}
-use Rattle.phasor.specs.declared.Vector.the-variants.{Is}
-use Rattle.phasor.specs.Pairs.{Within}
-use Rattle.line.specs.Along.{mostPart}
-use Rattle.line.proofs.Parts.{within-re, read-most}
-use Rattle.line.proofs.Made.{pair-within}
+use Rattle.common.proofs.Signed.{read}
 
 -- ---- a number that is not below 0, as it stands
 
@@ -38,31 +32,6 @@ module _ (z : ℤ) (f : SFits w64 z) (e : ltZ (read z) (pos 0) ≡ false) where
 
   pub as-word : Fits w64 (natAbs (read z))
   as-word = rw (toZ-ofZ f) (word z (not-below z (rw (toZ-ofZ f) at e)) f)
-
--- ---- one that is below 0, turned
-
-turned : (z : ℤ) → ltZ z (pos 0) ≡ true → T (nonNeg (pos 0 -ℤ z))
-turned (pos n) e = absurd (let h : n < 0 = ltb-true n 0 e in omega arith)
-turned (negsuc n) e = tt
-
-module _ (z : ℤ) (h : natAbs z ≤ mostPart) where
-  less : Stands (pos 0 -ℤ read z) (pos 0 -ℤ z) mostPart
-  less = sub (literal 0) (back (exactly z h) tt)
-
-  pub turned-fits : SFits w64 (pos 0 -ℤ read z)
-  turned-fits = fits less tt
-
-  pub turned-nonneg : ltZ (read z) (pos 0) ≡ true → T (nonNeg (read (pos 0 -ℤ read z)))
-  turned-nonneg e = rw (back less tt .is) (turned z (rw (back (exactly z h) tt .is) at e))
-
-  pub turned-word : Fits w64 (natAbs (read (pos 0 -ℤ read z)))
-  turned-word = fits-le {n = mostPart} (small (back less tt)) (fits-lit tt)
-
-  pub turned-few : natAbs (read (pos 0 -ℤ read z)) < 1099511627776
-  turned-few = lt-of-le-of-lt (small (back less tt)) (lit< tt)
-
-  pub as-few : natAbs (read z) < 1099511627776
-  as-few = lt-of-le-of-lt (small (back (exactly z h) tt)) (lit< tt)
 
 -- ---- one that is below 0, of which -1 less it fits whatever it is
 
@@ -89,13 +58,10 @@ module _ (z : ℤ) (f : SFits w64 z) (e : ltZ (read z) (pos 0) ≡ true) where
   pub under-more : Fits w64 (natAbs (read (negsuc 0 -ℤ read z)) + 1)
   under-more = rw is (fits-le {n = 2 ^ 63} (omega (arith, found .2)) (fits-lit tt))
 
--- ---- parts, and floats of whole numbers
-
-pub part-most : (v : Vector) (re im : ℤ) → v ≡ Is re im → Within mostPart v → natAbs (read re) ≤ mostPart
-part-most v re im is h = read-most mostPart re (lit≤ tt) (within-re mostPart v re im is h)
+-- ---- floats of whole numbers
 
 pub exact : (n : ℕ) → n < 16777216 → T (inFloat binary32 (pos n))
 unfolding inFloat
 exact n h = rw (le-leb n (2 ^ 24) (le-of-lt h)) tt
 
-pub ruleset magnitudes = (as-nonneg, as-word, turned-fits, turned-nonneg, turned-word, turned-few, as-few, under-fits, under-nonneg, under-word, under-more, part-most, exact, pair-within, needs)
+pub ruleset magnitudes = (as-nonneg, as-word, under-fits, under-nonneg, under-word, under-more, exact, needs)

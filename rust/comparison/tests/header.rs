@@ -25,16 +25,35 @@ fn outputs() -> Vec<String> {
     numbered.map(name).collect()
 }
 
-/// The contacts' names, by bit.
+/// The contacts' names, by bit. The library has the buttons in pairs, the panel's and the dispatcher's; a host has them one by one.
 fn contacts() -> Vec<String> {
     let source = read("crates/input/src/lib.rt");
     let body = between(&source, "pub fn decode_contacts", "\n}");
-    let bits = body.lines().filter_map(|line| line.split_once(": (n >> ")).enumerate();
-    let name = |(at, (name, rest)): (usize, (&str, &str))| {
-        assert_eq!(rest.split(')').next(), Some(at.to_string().as_str()), "the bit of {name}");
-        name.trim().to_string()
-    };
-    bits.map(name).collect()
+    let mut pair = String::new();
+    let mut names: Vec<(usize, String)> = Vec::new();
+    for line in body.lines() {
+        if let Some((name, rest)) = line.split_once(": (n >> ") {
+            let bit = rest.split(')').next().and_then(|bit| bit.parse().ok()).expect("a bit");
+            names.push((bit, contact_name(&pair, name.trim())));
+        } else if let Some((name, _)) = line.split_once(": Buttons {") {
+            pair = name.trim().to_string();
+        } else if line.trim() == "}," {
+            pair.clear();
+        }
+    }
+    names.sort();
+    for (at, (bit, name)) in names.iter().enumerate() {
+        assert_eq!(*bit, at, "the bit of {name}");
+    }
+    names.into_iter().map(|(_, name)| name).collect()
+}
+
+fn contact_name(pair: &str, name: &str) -> String {
+    match pair {
+        "panel" => format!("{name}_button"),
+        "dispatcher" => format!("remote_{name}"),
+        _ => name.to_string(),
+    }
 }
 
 fn slots() -> Vec<(String, usize)> {

@@ -15,13 +15,11 @@ shown-of-requires c κs = search needs
 show-requires : tie.Need-show-requires
 show-requires c κs = search needs
 
-next-of-requires : tie.Need-next-of-requires
-next-of-requires c κs = search needs
+state-of-requires : tie.Need-state-of-requires
+state-of-requires c κs = search needs
 
 returns : tie.Need-returns
 returns c = search live-made
 
 pub live-spec : {M : Type 1} → statement M
-live-spec =
-    tie.close
-    (tie.spec sense-requires act-requires shown-of-requires show-requires next-of-requires returns)
+live-spec = tie.close (tie.spec sense-requires act-requires shown-of-requires show-requires state-of-requires returns)

@@ -1,4 +1,5 @@
 use Rattle.rules.specs.Ticks.{refusedOf}
+use borrow.Author.Needs.{needs}
 use Rattle.regulator.proofs.refused.Statement.{statement}
 use Rattle.regulator.proofs.refused.Tie as tie
 

@@ -1,21 +1,25 @@
--- `boundary::ticking::advance` meets its contract, by what each call ensures. Assumes nothing.
-use Rattle.boundary.specs.Hosting.{advancedOf, tickedImage}
+-- `boundary::ticking::advance` meets its contract: the tick of the state that the numbers give, or its refusal. Assumes nothing.
+use Rattle.boundary.specs.Hosting.{refusedImage}
+use Rattle.boundary.proofs.Hosted.{state-advanced, none-advanced}
 use borrow.Author.Needs.{needs}
 use Rattle.boundary.proofs.ticking.advance.Statement.{statement}
 use Rattle.boundary.proofs.ticking.advance.Tie as tie
 
-input-of-requires : tie.Need-input-of-requires
-input-of-requires c κs = search needs
+is-state-requires : tie.Need-is-state-requires
+is-state-requires c κs = search needs
 
-tick-requires : tie.Need-tick-requires
-tick-requires c κs = search needs
+state-of-requires : tie.Need-state-of-requires
+state-of-requires c κs = search needs
 
-image-of-requires : tie.Need-image-of-requires
-image-of-requires c κs = search needs
+run-requires : tie.Need-run-requires
+run-requires c κs = search needs
 
 returns : tie.Need-returns
-unfolding advancedOf tickedImage
-returns c = cc
+returns c = search state-advanced
+
+returns-2 : tie.Need-returns-2
+unfolding refusedImage
+returns-2 c = search none-advanced
 
 pub advance-spec : {M : Type 1} → statement M
-advance-spec = tie.close (tie.spec input-of-requires tick-requires image-of-requires returns)
+advance-spec = tie.close (tie.spec is-state-requires state-of-requires run-requires returns returns-2)

@@ -1,22 +1,22 @@
--- `boundary::ticking::image_tick` meets its contract: the tick of the record that the image gives, or its refusal. Assumes nothing.
-use Rattle.boundary.specs.Hosting.{refusedImage}
-use Rattle.boundary.proofs.Hosted.{advanced-made, refused-made, hosted}
+-- `boundary::ticking::image_tick` meets its contract: the tick of the numbers, with the settings put back. Assumes nothing.
+use Rattle.boundary.proofs.Hosted.{image-made, hosted}
 use borrow.Author.Needs.{needs}
 use Rattle.boundary.proofs.ticking.image_tick.Statement.{statement}
 use Rattle.boundary.proofs.ticking.image_tick.Tie as tie
 
-record-of-requires : tie.Need-record-of-requires
-record-of-requires c κs = search needs
+numbers-in-requires : tie.Need-numbers-in-requires
+numbers-in-requires c κs = search needs
 
 advance-requires : tie.Need-advance-requires
 advance-requires c κs = search needs
 
-returns : tie.Need-returns
-returns c = hosted _ _ (c .before .before .before .record-of .ensures) (search advanced-made)
+with-settings-requires : tie.Need-with-settings-requires
+with-settings-requires c κs = search needs
 
-returns-2 : tie.Need-returns-2
-unfolding refusedImage
-returns-2 c = hosted _ _ (c .before .record-of .ensures) (search refused-made)
+returns : tie.Need-returns
+returns c =
+    let known = c .before .before .before .numbers-in in
+    hosted _ _ (known .ensures) (search (needs, known .ok)) (search (needs, known .ok)) (search image-made)
 
 pub image-tick-spec : {M : Type 1} → statement M
-image-tick-spec = tie.close (tie.spec record-of-requires advance-requires returns returns-2)
+image-tick-spec = tie.close (tie.spec numbers-in-requires advance-requires with-settings-requires returns)

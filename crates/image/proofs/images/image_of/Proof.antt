@@ -1,39 +1,19 @@
--- `image::images::image_of` meets its contract: the numbers are what each call ensures, and the whole gives the record back.
--- Assumes nothing.
-use Rattle.image.proofs.Whole.{image-made, imaged}
+-- `image::images::image_of` meets its contract, by what each call ensures. Assumes nothing.
+use Rattle.image.specs.Images.{imageOf}
+use Rattle.image.proofs.Whole.{imaged}
 use borrow.Author.Needs.{needs}
 use Rattle.image.proofs.images.image_of.Statement.{statement}
 use Rattle.image.proofs.images.image_of.Tie as tie
 
-organ-numbers-requires : tie.Need-organ-numbers-requires
-organ-numbers-requires c κs = search needs
+numbers-of-requires : tie.Need-numbers-of-requires
+numbers-of-requires c κs = search needs
 
-drive-image-requires : tie.Need-drive-image-requires
-drive-image-requires c κs = search needs
-
-fault-number-requires : tie.Need-fault-number-requires
-fault-number-requires c κs = search needs
-
-wait-image-requires : tie.Need-wait-image-requires
-wait-image-requires c κs = search needs
-
-way-numbers-requires : tie.Need-way-numbers-requires
-way-numbers-requires c κs = search needs
-
-key-image-requires : tie.Need-key-image-requires
-key-image-requires c κs = search needs
+image-with-requires : tie.Need-image-with-requires
+image-with-requires c κs = search needs
 
 returns : tie.Need-returns
-returns c = imaged _ (search image-made)
+unfolding imageOf
+returns c = imaged _ cc
 
 pub image-of-spec : {M : Type 1} → statement M
-image-of-spec =
-    tie.close
-    (tie.spec
-    organ-numbers-requires
-    drive-image-requires
-    fault-number-requires
-    wait-image-requires
-    way-numbers-requires
-    key-image-requires
-    returns)
+image-of-spec = tie.close (tie.spec numbers-of-requires image-with-requires returns)

@@ -13,34 +13,14 @@ drive-of-requires c κs = search needs
 fault-of-requires : tie.Need-fault-of-requires
 fault-of-requires c κs = search needs
 
-wait-of-requires : tie.Need-wait-of-requires
-wait-of-requires c κs = search needs
+memory-of-requires : tie.Need-memory-of-requires
+memory-of-requires c κs = search needs
 
 way-of-requires : tie.Need-way-of-requires
 way-of-requires c κs = search needs
-
-way-of-requires-2 : tie.Need-way-of-requires-2
-way-of-requires-2 c κs = search needs
-
-way-of-requires-3 : tie.Need-way-of-requires-3
-way-of-requires-3 c κs = search needs
-
-keys-of-requires : tie.Need-keys-of-requires
-keys-of-requires c κs = search needs
 
 returns : tie.Need-returns
 returns c = search state-made
 
 pub state-of-spec : {M : Type 1} → statement M
-state-of-spec =
-    tie.close
-    (tie.spec
-    organs-of-requires
-    drive-of-requires
-    fault-of-requires
-    wait-of-requires
-    way-of-requires
-    way-of-requires-2
-    way-of-requires-3
-    keys-of-requires
-    returns)
+state-of-spec = tie.close (tie.spec organs-of-requires drive-of-requires fault-of-requires memory-of-requires way-of-requires returns)

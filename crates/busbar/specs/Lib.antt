@@ -1,4 +1,0 @@
-pub mod Section
-pub mod Voltage
-pub mod Deviation
-pub mod Stars

@@ -1,0 +1,5 @@
+pub mod Halves
+pub mod Limits
+pub mod Opened
+pub mod Bands
+pub mod Laws

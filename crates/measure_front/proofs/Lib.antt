@@ -1,0 +1,2 @@
+pub mod FirstStep
+pub mod Fronts

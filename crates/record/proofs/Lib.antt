@@ -1,4 +1,0 @@
-pub mod OfKind
-pub mod Opened
-pub mod Waits
-pub mod Starts

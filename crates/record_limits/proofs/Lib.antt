@@ -1,0 +1,3 @@
+pub mod OfKind
+pub mod Opened
+pub mod Waits

@@ -1,0 +1,3 @@
+mod Bad
+pub mod Made
+pub mod Parts

@@ -1,0 +1,5 @@
+pub mod Every
+pub mod Opened
+pub mod Tables
+pub mod Numbers
+pub mod First

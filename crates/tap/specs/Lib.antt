@@ -1,4 +1,0 @@
-pub mod Positions
-pub mod Sliding
-pub mod Counted
-pub mod Stars
