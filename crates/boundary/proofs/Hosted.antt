@@ -26,10 +26,10 @@ use Rattle.rules.proofs.Next.{tick-lasting}
 use Rattle.rules.proofs.Steps.{accepted-is, settings-kept}
 use Rattle.image.specs.declared.Numbers.{Numbers}
 use Rattle.image.specs.declared.Image.{Image}
-use Rattle.image.specs.declared.bringing.Brought.{Brought}
+use Rattle.image_input.specs.declared.Brought.{Brought}
 use Rattle.image.specs.Images.{numbersOf, isState, stateOf, numbersIn, imageWith, imageOf, FromImage, recordOf}
 use Rattle.image.proofs.Whole.{taken-same}
-use Rattle.image.specs.Bringing.{inputOf}
+use Rattle.image_input.specs.Bringing.{inputOf}
 use Rattle.boundary.specs.declared.ticking.Advanced.{Advanced}
 use Rattle.boundary.specs.declared.ticking.ImageTicked.{ImageTicked}
 use Rattle.boundary.specs.Hosting.{tickedImage, advancedOf, refusedImage, isAccepted, imageTickOf, besidesOf, wholeOf}

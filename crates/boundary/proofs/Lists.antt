@@ -15,17 +15,19 @@ use Rattle.record.specs.declared.Regulator.{Regulator}
 use Rattle.record_limits.specs.Limits.{withinOf}
 use Rattle.claim.specs.Claim.{Tick, All, Kept}
 use Rattle.rules.specs.Ticks.{tickOf}
-use Rattle.rules.specs.Lists.{seen, ticksFrom, opening}
+use Rattle.claim.specs.Runs.{At}
+use Rattle.claim.proofs.Runs.{same-run}
+use Rattle.rules.specs.Lists.{seen, leftBy, seenOn, ticksFrom, opening}
 use Rattle.rules.proofs.Claim.{kept}
 use Rattle.coding_drive.specs.Numbers.{driveImage}
 use Rattle.coding_wait.specs.Numbers.{waitImage}
 use Rattle.image.specs.declared.Image.{Image}
-use Rattle.image.specs.declared.bringing.Brought.{Brought}
+use Rattle.image_input.specs.declared.Brought.{Brought}
 use Rattle.image.specs.Images.{numbersOf, imageOf, recordOf}
-use Rattle.image.specs.Bringing.{inputOf}
+use Rattle.image_input.specs.Bringing.{inputOf}
 use Rattle.image.proofs.Whole.{back}
 use Rattle.boundary.specs.Hosting.{tickedImage, advancedOf, refusedImage, isAccepted, imageTickOf}
-use Rattle.boundary.specs.Lists.{imageSeen, imageTicksFrom, imageRests, imageOpening}
+use Rattle.boundary.specs.Lists.{imageSeen, imageLeftBy, imageSeenOn, imageTicksFrom, imageRests, imageOpening}
 use Rattle.claim.proofs.Refused.{Refused, refused-kept}
 
 -- the ticks of a list on m that opens as a call's does
@@ -71,12 +73,19 @@ module _ (r : Regulator) where
   unfolding imageOf inputOf tickedImage
   seen-of rest b = rw (back r)
 
-ticks-of : (rest : Bool) (r : Regulator) (bs : List Brought) → imageTicksFrom rest (imageOf r) bs ≡ ticksFrom rest r (map inputOf bs)
+-- the list on a record, as the host holds it
+abbrev held : At Regulator → At Image
+held a = record { rest = a .rest; got = imageOf (a .got) }
+
+steps-of : (a : At Regulator) (b : Brought) → imageLeftBy (held a) b ≡ held (leftBy a (inputOf b))
 unfolding tickedImage
-ticks-of rest r [] = refl
-ticks-of rest r (b ∷ bs) =
-    rw (ticked-of r b, seen-of r rest b)
-    (ap (λ (l : List Tick). seen rest r (inputOf b) (tickOf r (inputOf b)) ∷ l) (ticks-of _ (tickOf r (inputOf b) .next) bs))
+steps-of a b = rw (ticked-of (a .got) b)
+
+shows-of : (a : At Regulator) (b : Brought) → imageSeenOn (held a) b ≡ seenOn a (inputOf b)
+shows-of a b = rw (ticked-of (a .got) b) (seen-of (a .got) (a .rest) b)
+
+ticks-of : (rest : Bool) (r : Regulator) (bs : List Brought) → imageTicksFrom rest (imageOf r) bs ≡ ticksFrom rest r (map inputOf bs)
+ticks-of rest r bs = same-run leftBy seenOn imageLeftBy imageSeenOn held inputOf steps-of shows-of (record { rest = rest; got = r }) bs
 
 pub kept-on : (r : Regulator) (bs : List Brought) → Kept (imageOpening (imageOf r)) (ticksOn (imageOf r) bs)
 unfolding imageOf

@@ -11,9 +11,9 @@ use Rattle.record_starting.specs.Starting.{Start}
 use Rattle.rules.specs.declared.Ticked.{Ticked}
 use Rattle.rules.specs.Ticks.{tickOf}
 use Rattle.image.specs.declared.Image.{Image}
-use Rattle.image.specs.declared.bringing.Brought.{Brought}
+use Rattle.image_input.specs.declared.Brought.{Brought}
 use Rattle.image.specs.Images.{numbersIn, imageWith, imageOf, recordOf}
-use Rattle.image.specs.Bringing.{inputOf}
+use Rattle.image_input.specs.Bringing.{inputOf}
 use Rattle.boundary.specs.declared.Started.{Started}
 use Rattle.boundary.specs.declared.ticking.Advanced.{Advanced}
 use Rattle.boundary.specs.declared.ticking.ImageTicked.{ImageTicked}

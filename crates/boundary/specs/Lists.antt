@@ -1,17 +1,18 @@
 -- Lists of ticks through the boundary, as demand 3 speaks of them (crate `claim`): what a host sees of its images and outputs.
 use Prim.Native.Nat.{ℕ}
 use mathlib.Core.Bool.{Bool}
-use mathlib.Core.List.{List, [], _∷_}
+use mathlib.Core.List.{List, _∷_}
 use lib.Dec.{eqb}
 use Rattle.common.specs.Choice.{choose}
 use Rattle.ways.specs.declared.Direction.the-variants.{Raise, Lower}
 use Rattle.claim.specs.Claim.{Tick, Opening, restAfter}
+use Rattle.claim.specs.Runs.{runOf, At}
 use Rattle.rules.specs.Lists.{delayIn}
 use Rattle.coding_wait.specs.declared.WaitImage.{WaitImage}
 use Rattle.image.specs.declared.Image.{Image}
-use Rattle.image.specs.declared.bringing.Brought.{Brought}
+use Rattle.image_input.specs.declared.Brought.{Brought}
 use Rattle.image.specs.Images.{recordOf}
-use Rattle.image.specs.Bringing.{inputOf}
+use Rattle.image_input.specs.Bringing.{inputOf}
 use Rattle.boundary.specs.declared.ticking.ImageTicked.{ImageTicked}
 use Rattle.boundary.specs.Hosting.{isAccepted, imageTickOf}
 
@@ -29,11 +30,16 @@ imageSeen rest m b t =
       outputs = t .outputs .fields;
     }
 
--- the ticks of a list, each getting the image that the last one returned
+-- each tick gets the image that the last one returned
+abbrev pub imageLeftBy : At Image → Brought → At Image
+imageLeftBy a b = record { rest = restAfter (imageTickOf (a .got) b .outputs .fields); got = imageTickOf (a .got) b .next }
+
+abbrev pub imageSeenOn : At Image → Brought → Tick
+imageSeenOn a b = imageSeen (a .rest) (a .got) b (imageTickOf (a .got) b)
+
+-- the ticks of a list
 abbrev pub imageTicksFrom : Bool → Image → List Brought → List Tick
-imageTicksFrom rest m [] = []
-imageTicksFrom rest m (b ∷ bs) =
-    imageSeen rest m b (imageTickOf m b) ∷ imageTicksFrom (restAfter (imageTickOf m b .outputs .fields)) (imageTickOf m b .next) bs
+imageTicksFrom rest m bs = runOf imageLeftBy imageSeenOn (record { rest = rest; got = m }) bs
 
 -- *at rest*, "for the first tick, the record handed in holds no asked command and no move": the image's drive is of kind 0
 abbrev pub imageRests : Image → Bool

@@ -16,7 +16,7 @@ pub mod ticking;
 use crate::ticking::ImageTicked;
 use crate::ticking::Outputs;
 use image::Image;
-use image::bringing::Brought;
+use image_input::Brought;
 
 // The answer to a list: 0, or the number of the refusal and its slot, with the image of the record that the list gives; of the
 // record of zeros where it is refused.

@@ -10,7 +10,7 @@ ghost use Rattle.record.specs.Whole.{regulatorOf};
 ghost use Rattle.image.specs.Images.{imageWith};
 use image::Image;
 use image::Numbers;
-use image::bringing::Brought;
+use image_input::Brought;
 use record::State;
 use showing::FIELDS;
 use slots::SLOTS;
@@ -40,7 +40,7 @@ pub struct Advanced {
 fn run(s: &[u32; SLOTS], m: State, b: Brought) -> Advanced
     ensures { λ t. ⌜ t ≡ besidesOf (advancedOf (regulatorOf (now (s .entry)) m) b) ⌝ }
 {
-    let i = image::bringing::input_of(b);
+    let i = image_input::input_of(b);
     let x = regulator::step(s, m, i);
     let reply = x.reply;
     let fields = reply.outputs;

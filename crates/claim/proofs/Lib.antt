@@ -1,5 +1,6 @@
 pub mod Lists
 pub mod Refused
+pub mod Runs
 pub mod Shut
 pub mod Ticks
 pub mod Worked

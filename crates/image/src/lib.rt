@@ -1,6 +1,5 @@
 // The host's image of the record: the record in numbers alone, since no enum may cross the boundary and a host is not trusted
 // to hand over a bool. One image for each record, and functions there and back.
-pub mod bringing;
 pub mod images;
 
 use coding_drive::DriveImage;

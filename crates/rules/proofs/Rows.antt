@@ -1,10 +1,10 @@
 -- Rows of ticks in a list, from the one-step laws alone: nothing here looks into a tick, or knows the kind of drive.
 -- Assumes nothing.
-use Prim.Native.Nat.{ℕ, suc, _+_, _≤_, _<_}
+use Prim.Native.Nat.{ℕ, _+_, _≤_, _<_}
 use native.Mathlib.Omega.{arith}
 use mathlib.Core.Path.{_≡_, refl, sym, ap, _∙_, subst}
 use mathlib.Core.Bool.{Bool, true, false, true≢false}
-use mathlib.Core.List.{List, [], _∷_, _++_, append-assoc, tail-eq-of-cons-eq, head-eq-of-cons-eq, cons≢nil}
+use mathlib.Core.List.{List, [], _∷_, _++_, append-assoc}
 use mathlib.Core.Logic.{_⊎_, inl, inr, ⊎-elim, _↔_}
 use lib.ListN.{length, length-append}
 use Rattle.ways.specs.declared.Direction.{Direction}
@@ -13,8 +13,10 @@ use Rattle.record.specs.declared.Regulator.{Regulator}
 use Rattle.record_limits.specs.Limits.{withinOf}
 use Rattle.common.specs.Choice.{choose}
 use Rattle.claim.specs.Claim.{Tick, All, Some, Begins, Lasting, Waiting, Free, BeganAtZero, InForce, longest, closed}
+use Rattle.claim.specs.Runs.{runOf, afterOf, At}
 use Rattle.claim.proofs.Lists.{all-join, all-map}
-use Rattle.rules.specs.Lists.{ticksFrom, delayIn, opening}
+use Rattle.claim.proofs.Runs as runs
+use Rattle.rules.specs.Lists.{leftBy, seenOn, ticksFrom, delayIn, opening}
 use Rattle.rules.proofs.Steps.{tickAt, nextAt, restAt, waitTo, Linked, accepted-is, accepted-within, settings-kept, within-kept, linked-kept}
 use Rattle.rules.proofs.Waits.{begun-moves, force-is, force-least, force-most, wait-step, wait-or-zero, no-wait-is}
 
@@ -26,8 +28,7 @@ abbrev pub Closed : Tick → Type 0
 Closed t = closed t ≡ true
 
 abbrev pub recordAfter : Regulator → List Input → Regulator
-recordAfter r [] = r
-recordAfter r (i ∷ is) = recordAfter (nextAt r i) is
+recordAfter r is = afterOf nextAt r is
 
 abbrev pub restAfter : Bool → Regulator → List Input → Bool
 restAfter rest r [] = rest
@@ -40,16 +41,20 @@ pub record Cut (rest : Bool) (r : Regulator) (a b : List Tick) : Type 0 where
   pub isFront : a ≡ ticksFrom rest r front
   pub isBack : b ≡ ticksFrom (restAfter rest r front) (recordAfter r front) back
 
+-- where a list leaves off
+after-is : (rest : Bool) (r : Regulator) (is : List Input)
+    → afterOf leftBy (record { rest = rest; got = r }) is ≡ record { rest = restAfter rest r is; got = recordAfter r is }
+after-is rest r [] = refl
+after-is rest r (i ∷ is) = after-is (restAt r i) (nextAt r i) is
+
 pub cut : (rest : Bool) (r : Regulator) (is : List Input) (a b : List Tick) → ticksFrom rest r is ≡ a ++ b → Cut rest r a b
-cut rest r is [] b e = record { front = []; back = is; isFront = refl; isBack = sym e }
-cut rest r [] (t ∷ a) b e = absurd (cons≢nil (sym e))
-cut rest r (i ∷ is) (t ∷ a) b e =
-    let c = cut (restAt r i) (nextAt r i) is a b (tail-eq-of-cons-eq e) in
+cut rest r is a b e =
+    let c = runs.cut leftBy seenOn (record { rest = rest; got = r }) is a b e in
     record {
-      front = i ∷ c .front;
+      front = c .front;
       back = c .back;
-      isFront = λ j. head-eq-of-cons-eq (sym e) j ∷ c .isFront j;
-      isBack = c .isBack;
+      isFront = c .isFront;
+      isBack = c .isBack ∙ ap (λ (s : At Regulator). runOf leftBy seenOn s (c .back)) (after-is rest r (c .front));
     }
 
 module _ (P : Tick → Type 0) where
@@ -60,8 +65,7 @@ module _ (P : Tick → Type 0) where
   all-ticks f rest r (i ∷ is) k = (f rest r i k, all-ticks f (restAt r i) (nextAt r i) is (λ h. linked-kept r i (sym (within-kept r i) ∙ h)))
 
 pub length-ticks : (rest : Bool) (r : Regulator) (is : List Input) → length (ticksFrom rest r is) ≡ length is
-length-ticks rest r [] = refl
-length-ticks rest r (i ∷ is) = ap suc (length-ticks (restAt r i) (nextAt r i) is)
+length-ticks rest r is = runs.length-run leftBy seenOn (record { rest = rest; got = r }) is
 
 -- What the ticks keep.
 pub linked-step : (rest : Bool) (r : Regulator) (i : Input) → Linked (restAt r i) (nextAt r i)
@@ -139,8 +143,7 @@ exact d delay rest r (j ∷ front) i k p a w f e =
 pub uncons :
     (rest : Bool) (r : Regulator) (is : List Input) (t : Tick) (ts : List Tick) → t ∷ ts ≡ ticksFrom rest r is →
     (i : Input) × (later : List Input) × (t ≡ tickAt rest r i) × (ts ≡ ticksFrom (restAt r i) (nextAt r i) later)
-uncons rest r [] t ts e = absurd (cons≢nil e)
-uncons rest r (i ∷ is) t ts e = (i, is, head-eq-of-cons-eq e, tail-eq-of-cons-eq e)
+uncons rest r is t ts e = runs.uncons leftBy seenOn (record { rest = rest; got = r }) is t ts e
 
 pub first-rests :
     (d : Direction) (rest : Bool) (r : Regulator) (is : List Input) → 0 < length is → All (Waiting d) (ticksFrom rest r is) → rest ≡ true

@@ -1,8 +1,9 @@
 -- Lists of ticks of the record, as demand 3 speaks of them (crate `claim`).
 use Prim.Native.Nat.{ℕ}
 use mathlib.Core.Bool.{Bool}
-use mathlib.Core.List.{List, [], _∷_}
+use mathlib.Core.List.{List, _∷_}
 use Rattle.claim.specs.Claim.{Tick, Opening, restAfter}
+use Rattle.claim.specs.Runs.{runOf, At}
 use Rattle.ways.specs.declared.Direction.{Direction}
 use Rattle.ways.specs.declared.Direction.the-variants.{Raise, Lower}
 use Rattle.drive_follow.specs.Follow.{restsOf}
@@ -33,11 +34,16 @@ seen rest r i t =
       outputs = t .reply .outputs;
     }
 
--- the ticks of a list, "each tick getting the record that the last one returned"
+-- "each tick getting the record that the last one returned"
+abbrev pub leftBy : At Regulator → Input → At Regulator
+leftBy a i = record { rest = restAfter (tickOf (a .got) i .reply .outputs); got = tickOf (a .got) i .next }
+
+abbrev pub seenOn : At Regulator → Input → Tick
+seenOn a i = seen (a .rest) (a .got) i (tickOf (a .got) i)
+
+-- the ticks of a list
 abbrev pub ticksFrom : Bool → Regulator → List Input → List Tick
-ticksFrom rest r [] = []
-ticksFrom rest r (i ∷ is) =
-    seen rest r i (tickOf r i) ∷ ticksFrom (restAfter (tickOf r i .reply .outputs)) (tickOf r i .next) is
+ticksFrom rest r is = runOf leftBy seenOn (record { rest = rest; got = r }) is
 
 -- the list that a call opens: its own tick, which got r and i and gave t, and then the ticks of `later`. *At rest*, "for the first tick,
 -- the record handed in holds no asked command and no move".

@@ -91,7 +91,7 @@ fn every_row_has_its_meaning() {
 fn counts_are_the_sources() {
     let header = read("c/avr.h");
     let organs = fields(&read("crates/image/src/lib.rt"), "Image", &named_counts());
-    let samples = fields(&read("crates/image/src/bringing.rt"), "Brought", &[]);
+    let samples = fields(&read("crates/image_input/src/lib.rt"), "Brought", &[]);
     let counts = [
         ("AVR_SLOTS", library::SLOTS, count_of(&slots(), "SLOTS")),
         ("AVR_FIELDS", library::FIELDS, count_of(&constants(&read("crates/showing/src/lib.rt")), "FIELDS")),
@@ -173,7 +173,7 @@ fn the_desk_tools_contacts_are_the_librarys() {
 /// The manual calls the library's `u0` 3U0.
 #[test]
 fn the_desk_tools_readings_are_the_librarys() {
-    let fields = fields(&read("crates/image/src/bringing.rt"), "Brought", &[]);
+    let fields = fields(&read("crates/image_input/src/lib.rt"), "Brought", &[]);
     let names: Vec<&str> = fields.iter().filter(|field| field.kind == "Sample").map(|field| field.name.as_str()).collect();
     let desk: Vec<String> = READINGS.iter().map(|reading| reading.name.to_ascii_lowercase().replace("3u0", "u0")).collect();
     assert_eq!(desk, names);
@@ -212,8 +212,8 @@ const STRUCTS: [(&str, &str, &str, &str); 9] = [
     ("coding_wait/src/lib.rt", "WaitImage", "avr_wait", "WaitImage"),
     ("coding_keys/src/lib.rt", "KeyImage", "avr_keys", "KeyImage"),
     ("image/src/lib.rt", "Image", "avr_image", "Image"),
-    ("image/src/bringing.rt", "Sample", "avr_sample", "Sample"),
-    ("image/src/bringing.rt", "Brought", "avr_brought", "Brought"),
+    ("image_input/src/lib.rt", "Sample", "avr_sample", "Sample"),
+    ("image_input/src/lib.rt", "Brought", "avr_brought", "Brought"),
     ("boundary/src/ticking.rt", "Outputs", "avr_outputs", "Outputs"),
     ("boundary/src/lib.rt", "Started", "avr_started", "Started"),
     ("boundary/src/ticking.rt", "ImageTicked", "avr_ticked", "Ticked"),

@@ -41,14 +41,14 @@ use denote.Triple.Walked.{Stays, stay-ref, stay-none-ref, walkOf, goes-none-ref,
 use denote.Exit.{yes}
 use Rattle.boundary.proofs.Hosted.{Promised}
 use Rattle.image.specs.declared.Image.{Image}
-use Rattle.image.specs.declared.bringing.Brought.{Brought}
+use Rattle.image_input.specs.declared.Brought.{Brought}
 use Rattle.common.proofs.Walks.{says-all, beside, both}
 use Rattle.boundary.specs.declared.ticking.ImageTicked.{ImageTicked}
 use Rattle.boundary.specs.declared.ticking.Outputs.{Outputs}
 use Rattle.image.proofs.Image as R
 use Rattle.image.proofs.Image.Laws as R′
-use Rattle.image.proofs.bringing.Brought as T
-use Rattle.image.proofs.bringing.Brought.Laws as T′
+use Rattle.image_input.proofs.Brought as T
+use Rattle.image_input.proofs.Brought.Laws as T′
 use Rattle.boundary.proofs.ticking.Outputs as O
 use Rattle.boundary.proofs.ticking.Outputs.Laws as O′
 use Rattle.boundary.proofs.ticking.ImageTicked as X

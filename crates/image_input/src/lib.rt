@@ -1,6 +1,6 @@
 // What a tick brings, as the host hands it over.
 ghost use mathlib.Core.Path.{_≡_};
-ghost use Rattle.image.specs.Bringing.{readingOf, phasorOf, phasorsOf, inputOf};
+ghost use Rattle.image_input.specs.Bringing.{readingOf, phasorOf, phasorsOf, inputOf};
 use input::Input;
 use measure::Reading;
 use phasor::Phasor;

@@ -4,8 +4,8 @@ use Rattle.quality.specs.Quality.{readingBy}
 use Rattle.phasor.specs.declared.Phasor.{Phasor}
 use Rattle.phasor.specs.declared.Phasors.{Phasors}
 use Rattle.input.specs.declared.Input.{Input}
-use Rattle.image.specs.declared.bringing.Sample.{Sample}
-use Rattle.image.specs.declared.bringing.Brought.{Brought}
+use Rattle.image_input.specs.declared.Sample.{Sample}
+use Rattle.image_input.specs.declared.Brought.{Brought}
 
 -- quality 0 is Good, 1 is Held, any other Invalid
 abbrev pub readingOf : Sample → Reading

@@ -1,8 +1,8 @@
--- `image::bringing::phasors_of` meets its contract, by what each call ensures. Assumes nothing.
-use Rattle.image.specs.Bringing.{phasorsOf}
+-- `image_input::phasors_of` meets its contract, by what each call ensures. Assumes nothing.
+use Rattle.image_input.specs.Bringing.{phasorsOf}
 use borrow.Author.Needs.{needs}
-use Rattle.image.proofs.bringing.phasors_of.Statement.{statement}
-use Rattle.image.proofs.bringing.phasors_of.Tie as tie
+use Rattle.image_input.proofs.phasors_of.Statement.{statement}
+use Rattle.image_input.proofs.phasors_of.Tie as tie
 
 phasor-of-requires : tie.Need-phasor-of-requires
 phasor-of-requires c κs = search needs

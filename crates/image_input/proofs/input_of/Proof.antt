@@ -1,8 +1,8 @@
--- `image::bringing::input_of` meets its contract, by what each call ensures. Assumes nothing.
-use Rattle.image.specs.Bringing.{inputOf}
+-- `image_input::input_of` meets its contract, by what each call ensures. Assumes nothing.
+use Rattle.image_input.specs.Bringing.{inputOf}
 use borrow.Author.Needs.{needs}
-use Rattle.image.proofs.bringing.input_of.Statement.{statement}
-use Rattle.image.proofs.bringing.input_of.Tie as tie
+use Rattle.image_input.proofs.input_of.Statement.{statement}
+use Rattle.image_input.proofs.input_of.Tie as tie
 
 reading-of-requires : tie.Need-reading-of-requires
 reading-of-requires c κs = search needs

@@ -1,8 +1,8 @@
--- `image::bringing::phasor_of` meets its contract, by what each call ensures. Assumes nothing.
-use Rattle.image.specs.Bringing.{phasorOf}
+-- `image_input::phasor_of` meets its contract, by what each call ensures. Assumes nothing.
+use Rattle.image_input.specs.Bringing.{phasorOf}
 use borrow.Author.Needs.{needs}
-use Rattle.image.proofs.bringing.phasor_of.Statement.{statement}
-use Rattle.image.proofs.bringing.phasor_of.Tie as tie
+use Rattle.image_input.proofs.phasor_of.Statement.{statement}
+use Rattle.image_input.proofs.phasor_of.Tie as tie
 
 reading-of-requires : tie.Need-reading-of-requires
 reading-of-requires c κs = search needs
