@@ -2,6 +2,8 @@ pub mod Cases
 pub mod Done
 pub mod Fill
 pub mod Joined
+pub mod LentOne
+pub mod LentThree
 pub mod Opened
 pub mod Places
 pub mod Walks

@@ -1,4 +1,4 @@
--- `lent::tick_lent` meets its contract: the walk of its MIR over any types (`AnyTypes`) at its own. The borrow is opened, the record behind it is copied whole and passed to `tick`, whose result's field `next` is stored over it, and the borrow is closed at that record.
+-- `lent::tick_lent` meets its contract: the walk of its MIR over any types (`common`'s `LentOne`) at its own. The borrow is opened, the record behind it is copied whole and passed to `tick`, whose result's field `next` is stored over it, and the borrow is closed at that record.
 -- All that it knows of `tick` is that it meets its contract. No line goes by what the fields of `Regulator`, `Input` or `Reply` are.
 -- Assumes nothing.
 use mathlib.Core.Path.{_≡_, refl, ap}
@@ -34,8 +34,8 @@ use denote.Triple.Spec.{Meets, tripleOf}
 use denote.Triple.Table.{entered, cited}
 use denote.Triple.Walked.{Stays, stay-ref, stay-none, walkOf, goes-none, goes-ref, Walks, ends-at, walked, walk-meets}
 use denote.Exit.{yes}
+use Rattle.common.proofs.LentOne.{walks}
 use Rattle.common.proofs.Walks.{says-all, beside}
-use Rattle.lent.proofs.AnyTypes.{walks}
 use Rattle.rules.specs.Ticks.{tickOf}
 use Rattle.record.specs.declared.Regulator.{Regulator}
 use Rattle.input.specs.declared.Input.{Input}
@@ -149,7 +149,7 @@ module _ {M : Type 1} (𝓤 : URA M) (H : Heap 𝓤) (A : Atoms 𝓤) (W : Given
         qed W ((‵ (flft κ q) ⊛ ‵ ftrue) ∷ ‵ (owns (MutRef (named 0) κ R.the-row ∷ T.the-row ∷ []) a at) ∷ []) ∵ split ! $ move ! (2 ∷ []) $ fsplit ! $ move ! (1 ∷ []) $ fsplit ! $
         peeks ! T.the-row (Is T.the-row) (shows 𝓤 H A T.the-row) t (tval t ∷ []) (λ gt. move ! (2 ∷ []) $ fsplit3 ! $ drop ! $ move ! (0 ∷ 1 ∷ 4 ∷ []) $
         -- [obs; the borrow; the token; what t owns; true; true]
-        walks 𝓤 H A W _ #regulator·tick O′.mir _ T′.mir R′.mir Regulator (R.the-row .written) (R.the-row .reaches) (R.the-row .own) (R.the-row .exit) (R.the-row .coded)
+        walks 𝓤 H A W _ #regulator·tick O′.mir _ T′.mir R′.mir R.the-row
         rval (LL.tells R.the-type R′.the-laws) (LL.lawful R.the-type R′.the-laws 𝓤 H A W) (LL.makes R.the-type R′.the-plain 𝓤 H A) C Λ fm κ q b o γ h (tval t)
         (tt, tt) (LL.lawful T.the-type T′.the-laws 𝓤 H A W .typed t _ gt .0) (Called 𝓤 H A at-mem run .post to-tick) (λ gh. via 𝓤 (Called 𝓤 H A at-mem run .pre to-tick) (goes-tick gh gt) (known to-tick))
         Ticked (λ x. oval (x .reply)) (λ x. x .next) (λ x v. (x ≡ tickOf h t) × Is X.the-row x (v ∷ [])) gives Post (λ x v p. exits x v (p .0) gt (p .1)))
