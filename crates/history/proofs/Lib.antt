@@ -1,0 +1,9 @@
+pub mod Ages
+pub mod Delays
+pub mod Fields
+pub mod Kept
+pub mod Marks
+pub mod Memories
+pub mod Steps
+pub mod Taps
+pub mod Worked

@@ -1,0 +1,4 @@
+pub mod Kept
+pub mod Pasts
+pub mod Delays
+pub mod Memories
