@@ -17,7 +17,7 @@ pub struct Observed {
 pub fn observe(s: &[u32; SLOTS], i: Input, breaker_closed: bool, counted: u32) -> Observed
     ensures { λ r. ⌜ r ≡ observedOf (now (s .entry)) i «breaker_closed» counted ⌝ }
 {
-    let readings = input::measure_all(i, s[MODULE] == 1);
+    let readings = input_readings::measure_all(i, s[MODULE] == 1);
     let i_bus = readings.i_bus;
     let section = busbar_section::section(s, breaker_closed, i_bus);
     let position = tap_position::read_position(s, i.bcd, i.sensor, counted);

@@ -1,7 +1,7 @@
 use Rattle.input.specs.Brought.{readingsOf}
 use borrow.Author.Needs.{needs}
-use Rattle.input.proofs.measure_all.Statement.{statement}
-use Rattle.input.proofs.measure_all.Tie as tie
+use Rattle.input_readings.proofs.measure_all.Statement.{statement}
+use Rattle.input_readings.proofs.measure_all.Tie as tie
 
 current-channel-requires : tie.Need-current-channel-requires
 current-channel-requires c κs = search needs
