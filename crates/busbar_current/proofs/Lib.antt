@@ -1,3 +1,4 @@
+pub mod Facts
 pub mod Opened
 pub mod Picked
 pub mod Values

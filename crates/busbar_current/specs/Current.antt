@@ -1,5 +1,6 @@
 -- Rule 6 of 01: the number of a Good reading, and the current of the compensation. Definitions only.
 use Prim.Native.Nat.{ℕ, _+_, _*_, _≤_}
+use mathlib.Core.Bool.{Bool, true, false}
 use mathlib.Core.List.{List}
 use lib.Dec.{eqb, leb}
 use lib.IntN.{ℤ, pos, natAbs, _+ℤ_, _-ℤ_}
@@ -28,6 +29,17 @@ unfoldable pub goodOf : Measured → Value
 goodOf (measured.Good n) = readingOf n
 goodOf (measured.Held n) = Missing
 goodOf measured.Missing = Missing
+
+-- the same of any number, however large: `proofs/Facts.antt` shows that the bound takes no reading away
+unfoldable pub numberOf : Measured → Value
+numberOf (measured.Good n) = Is (pos n)
+numberOf (measured.Held n) = Missing
+numberOf measured.Missing = Missing
+
+-- whether there is no number
+abbrev pub isMissing : Value → Bool
+isMissing Missing = true
+isMissing (Is z) = false
 
 -- of two numbers, each of which is needed
 unfoldable pub both : (ℤ → ℤ → ℤ) → Value → Value → Value

@@ -1,15 +1,22 @@
 -- Facts of U along the line, for every sheet, voltage and current.
 -- Assumes nothing.
 use mathlib.Core.Path.{_≡_, refl, sym, ap, _∙_}
+use mathlib.Core.Bool.{true}
 use mathlib.Core.List.{List}
 use Prim.Native.Nat.{ℕ, suc, _≤_}
-use native.Mathlib.Nat.{zero-mul, mul-zero, add-zero}
+use native.Mathlib.Nat.{le-trans, zero-mul, mul-zero, add-zero}
 use lib.IntN.{ℤ, pos, negsuc, negℤ, _-ℤ_, _*ℤ_}
 use native.Mathlib.Omega.{arith}
 use borrow.Author.Tests.{lt-ltb}
+use lib.Dec.{lit≤}
 use Rattle.slots.specs.Slots.{slot, moduleKind, compensationCurrent, resistance, reactance}
+use Rattle.measure.specs.declared.Channel.the-variants.{Voltage}
+use Rattle.measure.specs.Readings.{limitOf}
 use Rattle.phasor.specs.declared.Phasors.{Phasors}
 use Rattle.phasor.specs.declared.Vector.the-variants.{Is}
+use Rattle.phasor.specs.Pairs.{vectorOf}
+use Rattle.sheet.specs.Sheet.{passesOf}
+use Rattle.sheet.proofs.Laws.{resistance-most, reactance-most}
 use Rattle.root.specs.Roots.{rootOf, Root}
 use Rattle.root.proofs.Laws.{root-is, root-monotone}
 use Rattle.busbar_current.specs.declared.Value.{Value}
@@ -17,7 +24,7 @@ use Rattle.busbar_current.specs.declared.Value.the-variants as value
 use Rattle.busbar_current.specs.Current.{pickedOf}
 use Rattle.line_current.specs.Pair.{currentOf}
 use Rattle.line.proofs.Made.{end-made}
-use Rattle.line.specs.Along.{scaledOf, dropRe, dropIm, remainsOf, squaresOf, magnitudeOf, farEndOf, alongOf}
+use Rattle.line.specs.Along.{mostImpedance, scaledOf, dropRe, dropIm, remainsOf, squaresOf, magnitudeOf, farEndOf, alongOf}
 
 -- ---- U is what its sentence says
 
@@ -80,3 +87,14 @@ pub by-its-slots : (s t : List ℕ) (p : Phasors) → slot s moduleKind ≡ slot
     → slot s resistance ≡ slot t resistance → slot s reactance ≡ slot t reactance → alongOf s p ≡ alongOf t p
 unfolding alongOf farEndOf currentOf pickedOf
 by-its-slots s t p k c r x = rw (k, c, r, x)
+
+-- ---- no taken sheet has an impedance above the bound, so U is there wherever the pairs are
+
+module _ (s : List ℕ) (e : passesOf s ≡ true) where
+  taken-impedance : (slot s resistance ≤ mostImpedance) × (slot s reactance ≤ mostImpedance)
+  taken-impedance = (le-trans (resistance-most s e) (lit≤ tt), le-trans (reactance-most s e) (lit≤ tt))
+
+  pub taken-along : (p : Phasors)
+      → alongOf s p ≡ magnitudeOf (remainsOf (slot s resistance) (slot s reactance) (vectorOf (limitOf Voltage) (p .«u_ab»)) (currentOf s p))
+  unfolding alongOf
+  taken-along p = sym (end-made _ s _ _ _ (taken-impedance .0) (taken-impedance .1) refl refl)

@@ -1,0 +1,3 @@
+pub mod Lacking
+pub mod Present
+pub mod Sides
