@@ -1,7 +1,6 @@
 -- A reading taken apart: its front and its fraction are the whole of it.
 -- Assumes nothing.
 use mathlib.Core.Path.{_≡_, refl, sym, ap, _∙_, subst}
-use mathlib.Core.Logic.{_↔_}
 use mathlib.Core.Bool.{Bool, true, false, not, true≢false}
 use Prim.Native.Nat.{ℕ, _<_}
 use native.Mathlib.Nat.{mod-lt}
@@ -12,11 +11,8 @@ use lib.Ieee.{Float, nan, inf, fin, binary32, ofFields, ofBits, toBits, fits, is
 use lib.Ieee.Bits.{ofBits-toBits}
 use lib.Ieee.Compare.{differs-from-itself}
 use Rattle.measure.proofs.Laws.{bits-value}
-use Rattle.measure.specs.Readings.{measuredOf}
 use Rattle.measure.specs.Fields.{fractions, minusOf, exponentOf, numberFraction}
-use Rattle.measure_front.specs.Fronts.{handed, readingOf, EveryFractionMissing, numberFront, frontOf, fractionOf}
-use Rattle.measure.specs.declared.Measured.{Measured}
-use Rattle.measure.specs.declared.Measured.the-variants as measured
+use Rattle.measure_front.specs.Fronts.{handed, readingOf, numberFront, frontOf, fractionOf}
 use Rattle.measure.specs.declared.Reading.{Reading}
 use Rattle.measure.specs.declared.Reading.the-variants.{Good, Held, Invalid}
 use Rattle.measure_front.specs.declared.Front.{Front}
@@ -68,7 +64,7 @@ minus-fin s m e fit = sym (bits-value (fin s m e) fit tt .0)
 
 pub ruleset number-fronts = (front-nan, whole-nan, front-number, whole-number, equals-itself, needs)
 
--- ---- a reading taken apart, and the first step's answer for it
+-- ---- a reading taken apart
 
 module _ (f : Front) (r : Reading) where
   pub front-good : (x : Float) → r ≡ Good x → f ≡ numberFront quality.Good x → f ≡ frontOf r
@@ -97,13 +93,8 @@ module _ (f : Front) (r : Reading) where
 
 pub ruleset fronts = (front-good, front-held, front-invalid, whole-good, whole-held, whole-invalid, needs)
 
-fraction-lt : (r : Reading) → fractionOf r < fractions
+pub fraction-lt : (r : Reading) → fractionOf r < fractions
 unfolding fractionOf
 fraction-lt (Good x) = mod-lt (toBits binary32 x) (lit< tt)
 fraction-lt (Held x) = mod-lt (toBits binary32 x) (lit< tt)
 fraction-lt Invalid = lit< tt
-
--- a reading that the first step stops: its own fraction is one of those that are missing
-pub stopped : (l : ℕ) (r : Reading) (f : Front) (passes : Bool) (m : Measured) → readingOf f (fractionOf r) ≡ r → ((passes ≡ false) ↔ EveryFractionMissing l f) → passes ≡ false → m ≡ measured.Missing → m ≡ measuredOf l r
-unfolding EveryFractionMissing
-stopped l r f passes m whole sentence e is = is ∙ sym (sentence .0 e (fractionOf r) (fraction-lt r)) ∙ ap (measuredOf l) whole

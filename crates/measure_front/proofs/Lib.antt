@@ -1,2 +1,3 @@
 pub mod FirstStep
 pub mod Fronts
+pub mod Judging

@@ -5,6 +5,7 @@ ghost use mathlib.Core.Logic.{_↔_};
 ghost use Rattle.measure.specs.Fields.{numberFraction};
 ghost use Rattle.measure.specs.Readings.{limitOf};
 ghost use Rattle.measure_front.specs.Fronts.{handed, readingOf, EveryFractionMissing, numberFront, frontOf, fractionOf, hasNumber, topExponent};
+ghost use Rattle.measure_front.specs.Judging.{Judges};
 use measure::Channel;
 use measure::Reading;
 
@@ -20,6 +21,19 @@ pub struct Front {
     pub quality: Quality,
     pub minus: bool,
     pub exponent: u8,
+}
+
+// A sign and an exponent that passed the first step, and the channel that they passed for. Only this crate can make one.
+pub struct Passed {
+    channel: Channel,
+    minus: bool,
+    exponent: u8,
+}
+
+// The first step's answer.
+pub enum Judged {
+    Missing,
+    Passed(Passed),
 }
 
 // A number's sign and exponent. A NaN's bits cannot be read: it alone differs from itself, and its exponent is 255.
@@ -92,4 +106,24 @@ pub fn passes(c: Channel, f: Front) -> bool
         return f.exponent == 0;
     }
     f.exponent <= top_exponent(c)
+}
+
+// The first step. What it lets pass, the second step takes (`measure_fraction::convert`), and nothing else.
+pub fn judge(c: Channel, f: Front) -> Judged
+    ensures { λ j. ⌜ Judges c f j ⌝ }
+{
+    if passes(c, f) {
+        return Judged::Passed(Passed {
+            channel: c,
+            minus: f.minus,
+            exponent: f.exponent,
+        });
+    }
+    Judged::Missing
+}
+
+pub fn channel_of(p: Passed) -> Channel
+    ensures { λ c. ⌜ c ≡ p .channel ⌝ }
+{
+    p.channel
 }

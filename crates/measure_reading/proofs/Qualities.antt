@@ -4,9 +4,12 @@ use mathlib.Core.Path.{_≡_, refl, _∙_}
 use Prim.Native.Nat.{ℕ}
 use lib.Ieee.{Float, binary32, ofBits}
 use borrow.Author.Needs.{needs}
-use Rattle.measure.specs.Readings.{convertedOf, goodOf, heldOf, numberOf, measuredOf}
+use Rattle.measure.specs.Readings.{limitOf, convertedOf, goodOf, heldOf, numberOf, measuredOf}
 use Rattle.measure_front.specs.Fronts.{numberFront, frontOf}
+use Rattle.measure_front.specs.Judging.{Judges, JudgedBy}
+use Rattle.measure_front.proofs.Judging.{channel-is, own-number}
 use Rattle.measure_reading.specs.Steps.{withQuality, countedOf}
+use Rattle.measure.specs.declared.Channel.{Channel}
 use Rattle.measure.specs.declared.Converted.{Converted}
 use Rattle.measure.specs.declared.Converted.the-variants.{OutOfRange, Whole}
 use Rattle.measure.specs.declared.Measured.{Measured}
@@ -14,6 +17,9 @@ use Rattle.measure.specs.declared.Measured.the-variants as measured
 use Rattle.measure.specs.declared.Reading.{Reading}
 use Rattle.measure.specs.declared.Reading.the-variants.{Good, Held, Invalid}
 use Rattle.measure_front.specs.declared.Front.{Front}
+use Rattle.measure_front.specs.declared.Judged.{Judged}
+use Rattle.measure_front.specs.declared.Judged.the-variants as judged
+use Rattle.measure_front.specs.declared.Passed.{Passed}
 use Rattle.measure_front.specs.declared.Quality.{Quality}
 use Rattle.measure_front.specs.declared.Quality.the-variants as quality
 
@@ -73,6 +79,9 @@ whole-reading l Invalid = go (convertedOf l (ofBits binary32 0))
     go OutOfRange = refl
     go (Whole n) = refl
 
-pub settled : (l : ℕ) (r : Reading) (f : Front) (q : Quality) (x : Float) (a : Converted) (m : Measured) → f ≡ frontOf r → q ≡ f .quality → x ≡ numberOf r → a ≡ convertedOf l x → m ≡ countedOf q a → m ≡ measuredOf l r
-settled l r f q x a m front kind number converted is =
-    is ∙ rw (kind, front, converted, number) (whole-reading l r)
+-- of a reading that passes, what the second step makes of its number
+pub settled : (c : Channel) (r : Reading) (f : Front) (j : Judged) (p : Passed) (q : Quality) (x : Float) (a : Converted) (m : Measured) → f ≡ frontOf r → Judges c f j
+    → j ≡ judged.Passed p → q ≡ f .quality → x ≡ numberOf r → (JudgedBy p x → a ≡ convertedOf (limitOf (p .channel)) x) → m ≡ countedOf q a → m ≡ measuredOf (limitOf c) r
+settled c r f j p q x a m front told passed kind number promise is =
+    let converted : a ≡ convertedOf (limitOf (p .channel)) x = promise (own-number c r f j p x front told passed number) in
+    is ∙ rw (kind, front, converted, number, channel-is c f j p told passed) (whole-reading (limitOf c) r)

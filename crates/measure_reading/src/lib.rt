@@ -7,6 +7,7 @@ use measure::Channel;
 use measure::Converted;
 use measure::Measured;
 use measure::Reading;
+use measure_front::Judged;
 use measure_front::Quality;
 
 // A counted number with the quality that it was handed over with.
@@ -47,9 +48,10 @@ pub fn measure(c: Channel, r: Reading) -> Measured
     ensures within { λ m. ⌜ AtMost (1000 * limitOf c) m ⌝ }
 {
     let f = measure_front::front_of(r);
-    if measure_front::passes(c, f) {
-        let quality = f.quality;
-        return counted(quality, measure::convert(c, number_of(r)));
+    let quality = f.quality;
+    let j = measure_front::judge(c, f);
+    match j {
+        Judged::Missing => Measured::Missing,
+        Judged::Passed(p) => counted(quality, measure_fraction::convert(p, number_of(r))),
     }
-    Measured::Missing
 }

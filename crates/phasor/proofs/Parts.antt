@@ -2,9 +2,10 @@
 -- Assumes nothing.
 use mathlib.Core.Path.{_≡_, refl, sym, ap, _∙_, subst}
 use mathlib.Core.Logic.{_↔_}
-use mathlib.Core.Bool.{Bool, true, false, cond, true≢false}
-use Prim.Native.Nat.{ℕ, zero, suc, _+_, _*_, _<_}
+use mathlib.Core.Bool.{Bool, true, false, not, cond, true≢false}
+use Prim.Native.Nat.{ℕ, zero, suc, _+_, _*_, _/_, _%_, _<_}
 use native.Mathlib.Nat.{mod-lt}
+use native.Mathlib.Omega.{arith}
 use borrow.Author.Needs.{needs}
 use lib.Dec.{T, leb, eqb, lit<}
 use lib.IntN.{ℤ}
@@ -13,17 +14,22 @@ use Rattle.measure_front.proofs.FirstStep.{is-missing}
 use Rattle.measure_front.proofs.Fronts.{minus-nan, minus-inf, minus-fin}
 use Rattle.measure.specs.Exact.{inRange, thousandths}
 use Rattle.measure.specs.Readings as readings
-use Rattle.measure.specs.Readings.{goodOf, measuredOf, convertedOf, numberOf}
-use Rattle.measure.specs.Fields.{minusOf, numberFraction}
+use Rattle.measure.specs.Readings.{limitOf, goodOf, measuredOf, convertedOf, numberOf}
+use Rattle.measure.specs.Fields.{fractions, minusOf, exponentOf, numberFraction}
+use Rattle.measure_front.specs.Judging.{Judges, JudgedBy}
 use Rattle.measure_front.specs.Fronts.{handed, readingOf, EveryFractionMissing, numberFront, frontOf, fractionOf}
+use Rattle.measure.specs.declared.Channel.{Channel}
 use Rattle.measure.specs.declared.Converted.{Converted}
 use Rattle.measure.specs.declared.Measured.the-variants as measured
 use Rattle.measure.specs.declared.Reading.the-variants.{Good}
 use Rattle.measure_front.specs.declared.Front.{Front}
+use Rattle.measure_front.specs.declared.Judged.{Judged}
+use Rattle.measure_front.specs.declared.Judged.the-variants as judged
+use Rattle.measure_front.specs.declared.Passed.{Passed}
 use Rattle.measure_front.specs.declared.Quality.{Quality}
 use Rattle.measure_front.specs.declared.Quality.the-variants as quality
 use Rattle.phasor.specs.Pairs.{partInRange, withSign, minus, signedThousandths, ifInRange, partOf}
-use Rattle.phasor.specs.Parts.{EveryFractionOut, PartPasses, magnitudeOf, signedOf}
+use Rattle.phasor.specs.Parts.{EveryFractionOut, PartJudges, magnitudeOf, signedOf}
 use Rattle.phasor.specs.declared.Part.{Part}
 use Rattle.phasor.specs.declared.Part.the-variants.{OutOfRange, Whole}
 
@@ -68,11 +74,14 @@ same-fractions limit s x = (λ all. λ t small. same t .0 (all t small), λ all.
         missing-out (inRange limit (ofFields binary32 false x t)) (partInRange limit (ofFields binary32 s x t)) (thousandths (ofFields binary32 false x t)) (signedThousandths (ofFields binary32 s x t))
         (magnitude-range limit s x t)
 
-pub part-passes : (limit x : ℕ) (f : Front) (passes : Bool) → f ≡ record { quality = quality.Good; minus = false; exponent = x } → ((passes ≡ false) ↔ EveryFractionMissing limit f) → PartPasses limit x passes
-unfolding PartPasses
-part-passes limit x f passes front told s =
-    let h = subst (λ (g : Front). (passes ≡ false) ↔ EveryFractionMissing limit g) front told in
-    (λ e. same-fractions limit s x .0 (h .0 e), λ all. h .1 (same-fractions limit s x .1 all))
+-- the first step's answer for a front without sign is a part's
+by-answer : (c : Channel) (x : ℕ) (j : Judged) → Judges c (record { quality = quality.Good; minus = false; exponent = x }) j → PartJudges c x j
+unfolding Judges PartJudges
+by-answer c x judged.Missing h = λ s. same-fractions (limitOf c) s x .0 h
+by-answer c x (judged.Passed p) h = (λ s all. h .0 (same-fractions (limitOf c) s x .1 all), h .1)
+
+pub part-judged : (c : Channel) (x : ℕ) (f : Front) (j : Judged) → f ≡ record { quality = quality.Good; minus = false; exponent = x } → Judges c f j → PartJudges c x j
+part-judged c x f j front told = by-answer c x j (subst (λ (g : Front). Judges c g j) front told)
 
 -- ---- both steps
 
@@ -99,21 +108,54 @@ module _ (limit : ℕ) where
   by-sign (fin true m e) false h = absurd (true≢false (sym h))
   by-sign (fin false m e) false h = signed-counted false (leb (m * up e) (limit * down e)) (thousandths (fin false m e))
 
-  module _ (r : Part) (x : Float) (f : Front) (front : f ≡ frontOf (Good x)) (passes : Bool) where
-    pub part-counted : T (fits binary32 x) → (size : Float) (a : Converted) → size ≡ magnitudeOf (f .minus) x → a ≡ convertedOf limit size → r ≡ signedOf (f .minus) a → r ≡ partOf limit x
-    unfolding frontOf numberFront
-    part-counted fit size a without e q =
-        let told : f .minus ≡ minus x = ap (λ (g : Front). g .minus) front ∙ sign-is x fit in
-        q ∙ ap (signedOf (f .minus)) (e ∙ ap (convertedOf limit) without) ∙ by-sign x (f .minus) told
+-- a number without its sign has the exponent that it had
+fits-unsigned : (m : ℕ) (e : ℤ) → T (fits binary32 (fin true m e)) → T (fits binary32 (fin false m e))
+unfolding fits
+fits-unsigned zero e h = h
+fits-unsigned (suc m) e h = h
 
-    pub part-stopped : readingOf f (fractionOf (Good x)) ≡ Good x → PartPasses limit (f .exponent) passes → passes ≡ false → r ≡ OutOfRange → r ≡ partOf limit x
-    unfolding frontOf numberFront readingOf fractionOf numberOf PartPasses EveryFractionOut
-    part-stopped whole told e q =
-        let number = ofFields binary32 (f .minus) (f .exponent) (numberFraction x) in
-        let good : f .quality ≡ quality.Good = ap (λ (g : Front). g .quality) front in
-        let reading : Good number ≡ Good x = subst (λ (k : Quality). handed k number ≡ Good x) good whole in
-        let same : number ≡ x = ap numberOf reading in
-        q ∙ sym (told (f .minus) .0 e (numberFraction x) (mod-lt (toBits binary32 x) (lit< tt))) ∙ ap (partOf limit) same
+above-the-sign : (a b : ℕ) → (0 + a + b) % 0x8000_0000 / fractions ≡ (0x8000_0000 + a + b) % 0x8000_0000 / fractions
+above-the-sign a b = let h : (0 + a + b) % 0x8000_0000 ≡ (0x8000_0000 + a + b) % 0x8000_0000 = omega arith in ap (λ (z : ℕ). z / fractions) h
+
+exponent-unsigned : (m : ℕ) (e : ℤ) → exponentOf (fin false m e) ≡ exponentOf (fin true m e)
+unfolding toBits
+exponent-unsigned m e = above-the-sign _ _
+
+exponent-inf : (s : Bool) → exponentOf (inf (not s)) ≡ exponentOf (inf s)
+unfolding toBits
+exponent-inf true = refl
+exponent-inf false = refl
+
+unsigned : (s : Bool) (x : Float) → T (fits binary32 x) → s ≡ minusOf x → (minusOf (magnitudeOf s x) ≡ false) × (exponentOf (magnitudeOf s x) ≡ exponentOf x)
+unfolding magnitudeOf neg
+unsigned false x fit is = (sym is, refl)
+unsigned true nan fit is = absurd (true≢false (is ∙ minus-nan))
+unsigned true (inf s) fit is = (minus-inf (not s) ∙ ap not (sym (minus-inf s) ∙ sym is), exponent-inf s)
+unsigned true (fin false m e) fit is = absurd (true≢false (is ∙ minus-fin false m e fit))
+unsigned true (fin true m e) fit is = (minus-fin false m e (fits-unsigned m e fit), exponent-unsigned m e)
+
+module _ (c : Channel) (x : Float) (f : Front) (front : f ≡ frontOf (Good x)) (j : Judged) (told : PartJudges c (f .exponent) j) (r : Part) where
+  pub part-counted : T (fits binary32 x) → (p : Passed) (size : Float) (a : Converted) → j ≡ judged.Passed p → size ≡ magnitudeOf (f .minus) x
+      → (JudgedBy p size → a ≡ convertedOf (limitOf (p .channel)) size) → r ≡ signedOf (f .minus) a → r ≡ partOf (limitOf c) x
+  unfolding frontOf numberFront PartJudges JudgedBy
+  part-counted fit p size a is without promise q =
+      let held : p ≡ record { channel = c; minus = false; exponent = f .exponent } = subst (PartJudges c (f .exponent)) is told .1 in
+      let had = unsigned (f .minus) x fit (ap (λ (g : Front). g .minus) front) in
+      let sign : p .minus ≡ minusOf size = ap (λ (k : Passed). k .minus) held ∙ sym (had .0) ∙ ap minusOf (sym without) in
+      let same : p .exponent ≡ exponentOf size = ap (λ (k : Passed). k .exponent) held ∙ ap (λ (g : Front). g .exponent) front ∙ sym (had .1) ∙ ap exponentOf (sym without) in
+      q
+      ∙ ap (signedOf (f .minus)) (promise (sign, same) ∙ ap (λ (k : Passed). convertedOf (limitOf (k .channel)) size) held ∙ ap (convertedOf (limitOf c)) without)
+      ∙ by-sign (limitOf c) x (f .minus) (ap (λ (g : Front). g .minus) front ∙ sign-is x fit)
+
+  pub part-stopped : readingOf f (fractionOf (Good x)) ≡ Good x → j ≡ judged.Missing → r ≡ OutOfRange → r ≡ partOf (limitOf c) x
+  unfolding frontOf numberFront readingOf fractionOf numberOf PartJudges EveryFractionOut
+  part-stopped whole is q =
+      let number = ofFields binary32 (f .minus) (f .exponent) (numberFraction x) in
+      let good : f .quality ≡ quality.Good = ap (λ (g : Front). g .quality) front in
+      let reading : Good number ≡ Good x = subst (λ (k : Quality). handed k number ≡ Good x) good whole in
+      let same : number ≡ x = ap numberOf reading in
+      let out = subst (PartJudges c (f .exponent)) is told in
+      q ∙ sym (out (f .minus) (numberFraction x) (mod-lt (toBits binary32 x) (lit< tt))) ∙ ap (partOf (limitOf c)) same
 
 module _ (y : Float) (s : Bool) (x : Float) where
   pub magnitude-below : s ≡ true → y ≡ neg x → y ≡ magnitudeOf s x
@@ -124,4 +166,4 @@ module _ (y : Float) (s : Bool) (x : Float) where
   unfolding magnitudeOf
   magnitude-above h q = rw h q
 
-pub ruleset parts = (part-passes, part-counted, part-stopped, magnitude-below, magnitude-above, needs)
+pub ruleset parts = (part-judged, part-counted, part-stopped, magnitude-below, magnitude-above, needs)

@@ -5,11 +5,12 @@ ghost use Prim.Native.Nat.{_*_, _≤_, _^_};
 ghost use lib.IntN.{natAbs};
 ghost use Rattle.measure.specs.Readings.{limitOf};
 ghost use Rattle.phasor.specs.Pairs.{freshOf, withSign, partOf, pairedOf, vectorOf, Within};
-ghost use Rattle.phasor.specs.Parts.{PartPasses, magnitudeOf, signedOf};
+ghost use Rattle.phasor.specs.Parts.{PartJudges, magnitudeOf, signedOf};
 use measure::Channel;
 use measure::Converted;
 use measure::Reading;
 use measure_front::Front;
+use measure_front::Judged;
 use measure_front::Quality;
 
 // What the module hands over: the two parts, in V or A.
@@ -90,10 +91,10 @@ fn magnitude(negative: bool, x: f32) -> f32
 }
 
 // The first step of a part: a reading's, with the sign taken off.
-fn part_passes(c: Channel, exponent: u8) -> bool
-    ensures { λ r. ⌜ PartPasses (limitOf c) exponent r ⌝ }
+fn judge_part(c: Channel, exponent: u8) -> Judged
+    ensures { λ j. ⌜ PartJudges c exponent j ⌝ }
 {
-    measure_front::passes(
+    measure_front::judge(
         c,
         Front {
             quality: Quality::Good,
@@ -108,10 +109,11 @@ fn measure_part(c: Channel, x: f32) -> Part
     ensures { λ r. ⌜ r ≡ partOf (limitOf c) x ⌝ }
 {
     let f = measure_front::front_of(Reading::Good(x));
-    if part_passes(c, f.exponent) {
-        return signed(f.minus, measure::convert(c, magnitude(f.minus, x)));
+    let j = judge_part(c, f.exponent);
+    match j {
+        Judged::Missing => Part::OutOfRange,
+        Judged::Passed(p) => signed(f.minus, measure_fraction::convert(p, magnitude(f.minus, x))),
     }
-    Part::OutOfRange
 }
 
 // Two parts, each of which is needed.

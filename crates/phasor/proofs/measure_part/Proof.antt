@@ -6,8 +6,14 @@ use Rattle.phasor.proofs.measure_part.Tie as tie
 front-of-requires : tie.Need-front-of-requires
 front-of-requires c κs = search needs
 
-part-passes-requires : tie.Need-part-passes-requires
-part-passes-requires c κs = search needs
+judge-part-requires : tie.Need-judge-part-requires
+judge-part-requires c κs = search needs
+
+enum-told : tie.Need-enum-told
+enum-told c = search needs
+
+enum-known-j : tie.Need-enum-known-j
+enum-known-j c = search needs
 
 magnitude-requires : tie.Need-magnitude-requires
 magnitude-requires c κs = search needs
@@ -29,7 +35,9 @@ measure-part-spec =
     tie.close
     (tie.spec
     front-of-requires
-    part-passes-requires
+    judge-part-requires
+    enum-told
+    enum-known-j
     magnitude-requires
     convert-requires
     signed-requires
