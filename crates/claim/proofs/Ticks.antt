@@ -1,19 +1,22 @@
--- Ticks of worked lists, by all that can be seen of them, and what they are in the words of demand 3. The sheet is `variedSheet`: T1 23,
--- T2 25, T3 21, T4 24, T5 22, T6 3; and for a drive without a switching contact `heldSheet`: T1 25, T2 23.
+-- Ticks of worked lists, by all that can be seen of them, and what they are in the words of demand 3, to either side. The sheet is
+-- `variedSheet`: T1 23, T2 25, T3 21, T4 24, T5 22, T6 3, or `variedBy` another T6; and for a drive without a switching contact
+-- `heldSheet`: T1 25, T2 23.
 -- Assumes nothing.
-use Prim.Native.Nat.{ℕ}
+use Prim.Native.Nat.{ℕ, _+_, _≤_, _<_}
 use native.Mathlib.Omega.{arith}
 use mathlib.Core.Path.{_≡_, refl}
 use mathlib.Core.Bool.{Bool, true, false, true≢false, false≢true}
-use mathlib.Core.List.{List, [], _∷_}
+use mathlib.Core.List.{List, [], _∷_, _++_}
 use mathlib.Core.Logic.{inl, inr, ⊎-elim}
-use lib.ListN.{replicate, set}
-use Rattle.slots.specs.Slots.{slot, inService}
+use lib.ListN.{length, replicate, length-replicate, set}
+use Rattle.slots.specs.Slots.{slot, inService, t4, t5, t6}
 use Rattle.showing.specs.Showing.{fieldCount}
+use Rattle.ways.specs.declared.Direction.{Direction}
 use Rattle.ways.specs.declared.Direction.the-variants.{Raise, Lower}
 use Rattle.input.specs.Brought.{bitOf}
-use Rattle.claim.specs.Claim.{Tick, Begins, Lasting, Waiting}
+use Rattle.claim.specs.Claim.{Tick, Opening, All, Begins, Command, Lasting, Waiting, BeganAtZero, InForce, Serves, Kept, closed}
 use Rattle.claim.specs.Scenes.{variedSheet, heldSheet}
+use Rattle.claim.proofs.Lists.{all-join, all-same}
 
 -- ---- ticks
 
@@ -41,73 +44,68 @@ tickUnder sheet rest low high contacts refusal outputs =
 abbrev pub tickOn : (rest : Bool) (lowDelay highDelay contacts refusal : ℕ) (outputs : List ℕ) → Tick
 tickOn = tickUnder variedSheet
 
--- contacts: breaker closed, automatic, external lower block; and with the switching contact closed
-abbrev pub openContact : ℕ
-openContact = 0x4801
+-- contacts: breaker closed, automatic, an external block of the direction that the side does not ask for; and with the switching contact
+-- closed
+abbrev pub openTo : Direction → ℕ
+openTo Raise = 0x4801
+openTo Lower = 0x4401
 
-abbrev pub closedContact : ℕ
-closedContact = 0x4803
+abbrev pub closedTo : Direction → ℕ
+closedTo Raise = 0x4803
+closedTo Lower = 0x4403
 
 -- a voltage in band: section, lower blocked, automatic
 abbrev pub inBand : Tick
-inBand = tickOn true 23 23 openContact 0 (shows ((2, 1) ∷ (16, 1) ∷ (27, 1) ∷ []))
+inBand = tickOn true 23 23 (openTo Raise) 0 (shows ((2, 1) ∷ (16, 1) ∷ (27, 1) ∷ []))
 
--- a low voltage: section, an organ's trip, manual and lower blocked, low, automatic; with outputs 0, raise, and 24, asked or moving
-abbrev pub lowUnder : (sheet : List ℕ) (rest : Bool) (delay other contacts raise moving : ℕ) → Tick
-lowUnder sheet rest delay other contacts raise moving =
+-- a voltage off to a side, with the delay to that side and to the other. Low: section, an organ's trip, manual and lower blocked, low,
+-- automatic; high: section, raise blocked, high, automatic. With the output of the side's command, and 24, asked or moving.
+abbrev pub toward : Direction → (sheet : List ℕ) (rest : Bool) (delay other contacts on moving : ℕ) → Tick
+toward Raise sheet rest delay other contacts on moving =
     tickUnder sheet rest delay other contacts 0
-    (shows ((0, raise) ∷ (2, 1) ∷ (10, 1) ∷ (14, 1) ∷ (16, 1) ∷ (17, 1) ∷ (24, moving) ∷ (27, 1) ∷ []))
-
-abbrev pub low : (rest : Bool) (delay contacts raise moving : ℕ) → Tick
-low rest delay contacts raise moving = lowUnder variedSheet rest delay 23 contacts raise moving
+    (shows ((0, on) ∷ (2, 1) ∷ (10, 1) ∷ (14, 1) ∷ (16, 1) ∷ (17, 1) ∷ (24, moving) ∷ (27, 1) ∷ []))
+toward Lower sheet rest delay other contacts on moving =
+    tickUnder sheet rest other delay contacts 0 (shows ((1, on) ∷ (2, 1) ∷ (15, 1) ∷ (18, 1) ∷ (24, moving) ∷ (27, 1) ∷ []))
 
 -- waiting under a delay; the tick on which the command begins; asked; moving; the move's end
-abbrev pub waits : ℕ → Tick
-waits delay = low true delay openContact 0 0
+abbrev pub waits : List ℕ → Direction → ℕ → Tick
+waits sheet d delay = toward d sheet true delay 23 (openTo d) 0 0
 
-abbrev pub raises : ℕ → Tick
-raises delay = low true delay openContact 1 1
+abbrev pub commands : List ℕ → Direction → ℕ → Tick
+commands sheet d delay = toward d sheet true delay 23 (openTo d) 1 1
 
-abbrev pub asked : Tick
-asked = low false 25 openContact 1 1
+abbrev pub asked : List ℕ → Direction → Tick
+asked sheet d = toward d sheet false 25 23 (openTo d) 1 1
 
-abbrev pub moves : Tick
-moves = low false 25 closedContact 0 1
+abbrev pub moves : List ℕ → Direction → Tick
+moves sheet d = toward d sheet false 25 23 (closedTo d) 0 1
 
-abbrev pub ends : Tick
-ends = low false 25 openContact 0 0
+abbrev pub ends : List ℕ → Direction → Tick
+ends sheet d = toward d sheet false 25 23 (openTo d) 0 0
 
--- a voltage above U_set5, with an external raise block: section, raise blocked, high, automatic; with outputs 1, lower, and 24
-abbrev pub highUnder : (sheet : List ℕ) (other contacts lower moving : ℕ) → Tick
-highUnder sheet other contacts lower moving =
-    tickUnder sheet true other 21 contacts 0 (shows ((1, lower) ∷ (2, 1) ∷ (15, 1) ∷ (18, 1) ∷ (24, moving) ∷ (27, 1) ∷ []))
+-- the ticks after a command's first: asked for b of them, the contact closed for h; the move's end, and what comes after
+abbrev pub servedRow : List ℕ → Direction → ℕ → ℕ → List Tick → List Tick
+servedRow sheet d b h after = replicate b (asked sheet d) ++ (replicate h (moves sheet d) ++ (ends sheet d ∷ after))
 
-abbrev pub high : (lower moving : ℕ) → Tick
-high lower moving = highUnder variedSheet 23 0x4401 lower moving
-
--- without a switching contact, so under T1 after a command too. Contacts as above, with bit 1 set; and with reset.
+-- without a switching contact, so under T1, or T3, after a command too. Contacts as above, with bit 1 set; and with reset.
 abbrev pub resetContact : ℕ
 resetContact = 0x5803
 
--- a low voltage, with outputs 0, raise, and 24, asked or moving; the command held; its end as 'long', with all blocked and the supply
--- tripped; its end in band, where the organ has not cleared yet
-abbrev pub heldLow : (rest : Bool) (contacts raise moving : ℕ) → Tick
-heldLow rest contacts raise moving = lowUnder heldSheet rest 25 25 contacts raise moving
+-- off to a side, under a delay; the command held; its end as 'long', with all blocked and the supply tripped; its end in band, where the
+-- organ has not cleared yet
+abbrev pub heldTo : Direction → (rest : Bool) (delay contacts on moving : ℕ) → Tick
+heldTo d rest delay contacts on moving = toward d heldSheet rest delay 25 contacts on moving
 
 abbrev pub held : Tick
-held = heldLow false closedContact 1 1
+held = heldTo Raise false 25 (closedTo Raise) 1 1
 
 abbrev pub heldLong : Tick
 heldLong =
-    tickUnder heldSheet false 25 25 closedContact 0
+    tickUnder heldSheet false 25 25 (closedTo Raise) 0
     (shows ((2, 1) ∷ (10, 1) ∷ (13, 1) ∷ (14, 1) ∷ (15, 1) ∷ (16, 1) ∷ (17, 1) ∷ (21, 1) ∷ (23, 1) ∷ (27, 1) ∷ []))
 
 abbrev pub heldBand : Tick
-heldBand = tickUnder heldSheet false 25 25 closedContact 0 (shows ((2, 1) ∷ (10, 1) ∷ (14, 1) ∷ (16, 1) ∷ (27, 1) ∷ []))
-
--- a voltage above U_set5
-abbrev pub heldHigh : (lower moving : ℕ) → Tick
-heldHigh lower moving = highUnder heldSheet 25 0x4403 lower moving
+heldBand = tickUnder heldSheet false 25 25 (closedTo Raise) 0 (shows ((2, 1) ∷ (10, 1) ∷ (14, 1) ∷ (16, 1) ∷ (27, 1) ∷ []))
 
 -- ---- what they are
 
@@ -117,10 +115,46 @@ zero-one e = omega arith
 pub one-zero : _≡_ {A = ℕ} 1 0 → ⊥
 one-zero e = omega arith
 
+module _ (sheet : List ℕ) where
+  in-force : (d : Direction) (rest : Bool) (delay other contacts on moving : ℕ) → InForce d delay (toward d sheet rest delay other contacts on moving)
+  in-force Raise rest delay other contacts on moving = refl
+  in-force Lower rest delay other contacts on moving = refl
+
+  -- a tick that starts at rest begins its side's command if it shows it; one that shows none, or does not start at rest, begins none
+  pub begins-shown : (d : Direction) (delay other contacts moving : ℕ) → Begins d (toward d sheet true delay other contacts 1 moving)
+  begins-shown Raise delay other contacts moving = record { accepted = refl; fromRest = refl; on = refl }
+  begins-shown Lower delay other contacts moving = record { accepted = refl; fromRest = refl; on = refl }
+
+  pub none-shown : (d : Direction) (rest : Bool) (delay other contacts moving : ℕ) → Command (toward d sheet rest delay other contacts 0 moving) → ⊥
+  none-shown Raise rest delay other contacts moving c = ⊎-elim (λ b. zero-one (b .on)) (λ b. zero-one (b .on)) c
+  none-shown Lower rest delay other contacts moving c = ⊎-elim (λ b. zero-one (b .on)) (λ b. zero-one (b .on)) c
+
+  pub none-moving : (d : Direction) (delay other contacts on moving : ℕ) → Command (toward d sheet false delay other contacts on moving) → ⊥
+  none-moving Raise delay other contacts on moving c = ⊎-elim (λ b. false≢true (b .fromRest)) (λ b. false≢true (b .fromRest)) c
+  none-moving Lower delay other contacts on moving c = ⊎-elim (λ b. false≢true (b .fromRest)) (λ b. false≢true (b .fromRest)) c
+
+pub is-command : (d : Direction) (t : Tick) → Begins d t → Command t
+is-command Raise t b = inl b
+is-command Lower t b = inr b
+
 module _ (sheet : List ℕ) (s : slot sheet inService ≡ 1) where
-  pub lasts-low : (rest : Bool) (delay other contacts raise moving : ℕ) → bitOf contacts 13 ≡ false → bitOf contacts 14 ≡ true
-      → Lasting Raise (lowUnder sheet rest delay other contacts raise moving)
-  lasts-low rest delay other contacts raise moving o a =
+  lasts : (d : Direction) (rest : Bool) (delay other contacts on moving : ℕ) → bitOf contacts 13 ≡ false → bitOf contacts 14 ≡ true
+      → Lasting d (toward d sheet rest delay other contacts on moving)
+  lasts Raise rest delay other contacts on moving o a =
+      record {
+        accepted = refl;
+        inService = s;
+        notOut = o;
+        automatic = a;
+        deviates = refl;
+        modeFree = refl;
+        sideFree = refl;
+        noRunAway = refl;
+        noNotStarted = refl;
+        noLong = refl;
+        noFast = refl;
+      }
+  lasts Lower rest delay other contacts on moving o a =
       record {
         accepted = refl;
         inService = s;
@@ -135,54 +169,92 @@ module _ (sheet : List ℕ) (s : slot sheet inService ≡ 1) where
         noFast = refl;
       }
 
-  pub lasts-high : (other contacts lower moving : ℕ) → bitOf contacts 13 ≡ false → bitOf contacts 14 ≡ true
-      → Lasting Lower (highUnder sheet other contacts lower moving)
-  lasts-high other contacts lower moving o a =
-      record {
-        accepted = refl;
-        inService = s;
-        notOut = o;
-        automatic = a;
-        deviates = refl;
-        modeFree = refl;
-        sideFree = refl;
-        noRunAway = refl;
-        noNotStarted = refl;
-        noLong = refl;
-        noFast = refl;
-      }
+  pub open-lasts : (d : Direction) (rest : Bool) (delay on moving : ℕ) → Lasting d (toward d sheet rest delay 23 (openTo d) on moving)
+  open-lasts Raise rest delay on moving = lasts Raise rest delay 23 (openTo Raise) on moving refl refl
+  open-lasts Lower rest delay on moving = lasts Lower rest delay 23 (openTo Lower) on moving refl refl
 
-pub low-lasts : (rest : Bool) (delay contacts raise moving : ℕ) → bitOf contacts 13 ≡ false → bitOf contacts 14 ≡ true
-    → Lasting Raise (low rest delay contacts raise moving)
-low-lasts rest delay contacts raise moving o a = lasts-low variedSheet refl rest delay 23 contacts raise moving o a
+  pub moves-lasts : (d : Direction) → Lasting d (moves sheet d)
+  moves-lasts Raise = lasts Raise false 25 23 (closedTo Raise) 0 1 refl refl
+  moves-lasts Lower = lasts Lower false 25 23 (closedTo Lower) 0 1 refl refl
 
--- waiting ticks to the low side and to the high, with a command or without: with an open contact
-pub low-waiting : (delay raise moving : ℕ) → Waiting Raise (low true delay openContact raise moving)
-low-waiting delay raise moving = record { lasting = low-lasts true delay openContact raise moving refl refl; rest = refl; contact = inr refl }
-
-pub high-waiting : (lower moving : ℕ) → Waiting Lower (high lower moving)
-high-waiting lower moving = record { lasting = lasts-high variedSheet refl 23 0x4401 lower moving refl refl; rest = refl; contact = inr refl }
+  -- a waiting tick, with a command or without: with an open contact
+  pub open-waits : (d : Direction) (delay on moving : ℕ) → Waiting d (toward d sheet true delay 23 (openTo d) on moving)
+  open-waits Raise delay on moving = record { lasting = open-lasts Raise true delay on moving; rest = refl; contact = inr refl }
+  open-waits Lower delay on moving = record { lasting = open-lasts Lower true delay on moving; rest = refl; contact = inr refl }
 
 -- without a switching contact, whatever bit 1 is
-pub held-waiting : (contacts raise moving : ℕ) → bitOf contacts 13 ≡ false → bitOf contacts 14 ≡ true → Waiting Raise (heldLow true contacts raise moving)
-held-waiting contacts raise moving o a =
-    record { lasting = lasts-low heldSheet refl true 25 25 contacts raise moving o a; rest = refl; contact = inl refl }
+pub held-waits : (d : Direction) (delay contacts on moving : ℕ) → bitOf contacts 13 ≡ false → bitOf contacts 14 ≡ true
+    → Waiting d (heldTo d true delay contacts on moving)
+held-waits Raise delay contacts on moving o a =
+    record { lasting = lasts heldSheet refl Raise true delay 25 contacts on moving o a; rest = refl; contact = inl refl }
+held-waits Lower delay contacts on moving o a =
+    record { lasting = lasts heldSheet refl Lower true delay 25 contacts on moving o a; rest = refl; contact = inl refl }
 
-pub held-high-waiting : (lower moving : ℕ) → Waiting Lower (heldHigh lower moving)
-held-high-waiting lower moving = record { lasting = lasts-high heldSheet refl 25 0x4403 lower moving refl refl; rest = refl; contact = inl refl }
+-- the switching contact
+pub is-open : (d : Direction) (sheet : List ℕ) (rest : Bool) (delay on moving : ℕ) → closed (toward d sheet rest delay 23 (openTo d) on moving) ≡ false
+is-open Raise sheet rest delay on moving = refl
+is-open Lower sheet rest delay on moving = refl
+
+pub is-closed : (d : Direction) (sheet : List ℕ) → closed (moves sheet d) ≡ true
+is-closed Raise sheet = refl
+is-closed Lower sheet = refl
 
 -- no waiting ticks: in band; at the move's end, which did not start at rest; a closed contact, where the drive has one; the end as 'long'
-pub band-not : Waiting Raise inBand → ⊥
-band-not w = zero-one (w .lasting .deviates)
+pub band-not : (d : Direction) → Waiting d inBand → ⊥
+band-not Raise w = zero-one (w .lasting .deviates)
+band-not Lower w = zero-one (w .lasting .deviates)
 
-pub ends-not : Waiting Raise ends → ⊥
-ends-not w = false≢true (w .rest)
+pub ends-not : (d : Direction) (sheet : List ℕ) → Waiting d (ends sheet d) → ⊥
+ends-not Raise sheet w = false≢true (w .rest)
+ends-not Lower sheet w = false≢true (w .rest)
 
-pub closed-not : (delay : ℕ) → Waiting Raise (low true delay closedContact 0 0) → ⊥
-closed-not delay w = ⊎-elim (λ e. zero-one e) (λ e. true≢false e) (w .contact)
+pub closed-not : (d : Direction) (delay : ℕ) → Waiting d (toward d variedSheet true delay 23 (closedTo d) 0 0) → ⊥
+closed-not Raise delay w = ⊎-elim (λ e. zero-one e) (λ e. true≢false e) (w .contact)
+closed-not Lower delay w = ⊎-elim (λ e. zero-one e) (λ e. true≢false e) (w .contact)
 
 pub long-not : Waiting Raise heldLong → ⊥
 long-not w = false≢true (w .rest)
 
-pub raises-begins : (delay : ℕ) → Begins Raise (raises delay)
-raises-begins delay = record { accepted = refl; fromRest = refl; on = refl }
+-- ---- a command that is served in the words of demand 3, and what each tick of its row has
+
+module _ (sheet : List ℕ) (d : Direction) (b h : ℕ) (after : List Tick) where
+  pub all-served : (P : Tick → Type 0) → P (asked sheet d) → P (moves sheet d) → P (ends sheet d) → All P after → All P (servedRow sheet d b h after)
+  all-served P p q r s =
+      all-join P (replicate b (asked sheet d)) (replicate h (moves sheet d) ++ (ends sheet d ∷ after)) (all-same P b (asked sheet d) p)
+      (all-join P (replicate h (moves sheet d)) (ends sheet d ∷ after) (all-same P h (moves sheet d) q) (r, s))
+
+  pub serves : All (λ t. closed t ≡ false) after → b < slot sheet t5 → 0 < h → slot sheet t6 ≤ h → h ≤ slot sheet t4 → Serves sheet (servedRow sheet d b h after)
+  serves openAfter inTime closes longEnough shortEnough =
+      let m : length (replicate b (asked sheet d)) ≡ b = length-replicate b (asked sheet d) in
+      let n : length (replicate h (moves sheet d)) ≡ h = length-replicate h (moves sheet d) in
+      record {
+        before = replicate b (asked sheet d);
+        held = replicate h (moves sheet d);
+        after = ends sheet d ∷ after;
+        whole = refl;
+        openBefore = all-same (λ t. closed t ≡ false) b (asked sheet d) (is-open d sheet false 25 1 1);
+        closedHeld = all-same (λ t. closed t ≡ true) h (moves sheet d) (is-closed d sheet);
+        openAfter = (is-open d sheet false 25 0 0, openAfter);
+        inTime = omega arith;
+        closes = omega arith;
+        longEnough = omega arith;
+        shortEnough = omega arith;
+      }
+
+-- ---- a row of n + 1 ticks to a side under one delay and from zero, each as a waiting tick must be: its last tick begins the command
+-- exactly if its number is the delay
+
+module _ (o : Opening) (pre post : List Tick) (d : Direction) (zero : BeganAtZero d o pre) (sheet : List ℕ) (delay other contacts : ℕ)
+    (w : (on moving : ℕ) → Waiting d (toward d sheet true delay other contacts on moving)) where
+  pub exactly-to : (n on moving : ℕ)
+      → Kept o (pre ++ (replicate n (toward d sheet true delay other contacts 0 0) ++ (toward d sheet true delay other contacts on moving ∷ post)))
+      → (Begins d (toward d sheet true delay other contacts on moving) → n + 1 ≡ delay)
+      × (n + 1 ≡ delay → Begins d (toward d sheet true delay other contacts on moving))
+  exactly-to n on moving k =
+      let t : Tick = toward d sheet true delay other contacts 0 0 in
+      let e =
+      k .exactly d delay pre (replicate n t) (toward d sheet true delay other contacts on moving) post refl zero
+      (all-same (Waiting d) n t (w 0 0)) (w on moving)
+      (all-same (InForce d delay) n t (in-force sheet d true delay other contacts 0 0)) (in-force sheet d true delay other contacts on moving) in
+      let c : length (replicate n t) ≡ n = length-replicate n t in
+      (λ b. let q = e .0 b in omega arith, λ q. e .1 (omega arith))

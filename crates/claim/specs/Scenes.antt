@@ -28,9 +28,13 @@ sheetOf kind under uSet2 t1 t2 t3 t4 t5 t6 =
 abbrev pub plainSheet : List ℕ
 plainSheet = sheetOf 0 0 90000 20 20 20 20 20 0
 
--- T1 to T6 are all different, T2 is the longest of the delays; at 98 V an organ trips and blocks manual
+-- T1 to T5 are all different, T2 is the longest of the delays; at 98 V an organ trips and blocks manual
+abbrev pub variedBy : (t6 : ℕ) → List ℕ
+variedBy t6 = sheetOf 0 1 99000 23 25 21 24 22 t6
+
+-- and T6 is another
 abbrev pub variedSheet : List ℕ
-variedSheet = sheetOf 0 1 99000 23 25 21 24 22 3
+variedSheet = variedBy 3
 
 -- the same for a drive without a switching contact, with T1 the longest of the delays
 abbrev pub heldSheet : List ℕ

@@ -1,3 +1,4 @@
+pub mod Causes
 pub mod Facts
 pub mod Kept
 pub mod Opened

@@ -1,18 +1,15 @@
 -- The definitions of a drive without a switching contact that go by its state, as `search` follows them: `search holds`.
 -- Assumes nothing.
 use mathlib.Core.Path.{_≡_}
-use mathlib.Core.Bool.{Bool, true, false, not, _||_}
+use mathlib.Core.Bool.{Bool, true, false}
 use Prim.Native.Nat.{ℕ}
 use lib.Dec.{ltb}
 use Rattle.common.proofs.Cases.{cases}
 use Rattle.drive_follow.specs.Follow.{unmovedOf}
-use Rattle.drive_hold.specs.Hold.{endsOf, heldOf, heldFrom, withinOf}
+use Rattle.drive_hold.specs.Hold.{heldOf, heldFrom, withinOf}
 use Rattle.ways.specs.declared.Direction.{Direction}
 use Rattle.drive.specs.declared.Drive.{Drive}
 use Rattle.drive.specs.declared.Drive.the-variants.{Resting, Asked, Moving}
-use Rattle.ways.specs.Ways.{otherOf}
-use Rattle.blocks.specs.Blocked.{opposedOf}
-use Rattle.ways.specs.declared.Way.the-variants.{To}
 use Rattle.drive_follow.specs.declared.Followed.{Followed}
 use Rattle.drive_hold.specs.declared.Holding.{Holding}
 
@@ -28,12 +25,6 @@ module _ (r : Followed) (x : Holding) where
   pub hold-moving : (s : Drive) (d : Direction) (n : ℕ) (m : Bool) → s ≡ Moving d n m → r ≡ unmovedOf Resting → r ≡ heldFrom s x
   unfolding heldFrom
   hold-moving s d n m p q = rw p q
-
--- what ends an automatic command, over plain values, as the function has them
-pub ends-made : (d : Direction) (x : Holding) {other opposed : Bool} → other ≡ otherOf (x .side) (To d) → opposed ≡ opposedOf (x .blocks) d
-    → (x .«in_band» || other || not (x .automatic) || (x .blocks .automatic || opposed)) ≡ endsOf d x
-unfolding endsOf
-ends-made d x p q = rw (p, q)
 
 module _ (b : Bool) (t4 : ℕ) where
   pub hold-within-resting : (s : Drive) → s ≡ Resting → b ≡ true → b ≡ withinOf s t4

@@ -1,2 +1,3 @@
 pub mod Buttons
+pub mod Numbers
 pub mod Opened

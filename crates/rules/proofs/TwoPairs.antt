@@ -4,7 +4,7 @@
 use mathlib.Core.Path.{_≡_, refl, sym, ap, subst, _∙_}
 use mathlib.Core.Bool.{Bool, true, false}
 use mathlib.Core.Logic.{⊎-elim}
-use Prim.Native.Nat.{ℕ}
+use Prim.Native.Nat.{ℕ, _^_, _<_}
 use Rattle.common.specs.Choice.{choose}
 use Rattle.common.proofs.Joined.{split, and-four, and-false}
 use Rattle.fault.specs.declared.Fault.{Fault}
@@ -14,6 +14,7 @@ use Rattle.ways.specs.declared.Way.the-variants.{Neither}
 use Rattle.input.specs.declared.Contacts.{Contacts}
 use Rattle.input.specs.declared.Input.{Input}
 use Rattle.input.specs.Brought.{contactsOf, readingsOf}
+use Rattle.input.proofs.Numbers.{contactNumber, brings-them, of-32-bits}
 use Rattle.blocks.specs.Blocked.{blocksOf}
 use Rattle.keys.specs.declared.Buttons.{Buttons}
 use Rattle.keys.specs.declared.Keys.{Keys}
@@ -126,7 +127,7 @@ tick-by : (r : Regulator) (i : Input) → tickOf r i ≡ tickBy r i (contactsOf 
 unfolding tickOf
 tick-by r i = refl
 
-module _ (r : Regulator) (i : Input) (n : ℕ) (b b′ : Buttons) where
+module _ (r : Regulator) (i : Input) (b b′ : Buttons) where
   abbrev c : Contacts
   c = contactsOf (i .contacts)
 
@@ -139,9 +140,9 @@ module _ (r : Regulator) (i : Input) (n : ℕ) (b b′ : Buttons) where
   abbrev r″ : Regulator
   r″ = rekeyed before r
 
-  by-contacts : Alike (tickBy r″ (withContacts n i) (contactsWith now c)) (tickBy r i c)
+  by-contacts : (n : ℕ) → Alike (tickBy r″ (withContacts n i) (contactsWith now c)) (tickBy r i c)
   unfolding withinOf isOut outOf refusedOf
-  by-contacts =
+  by-contacts n =
       let ran = ran-same r i c n now before (r .state .memory .remembered) (other-unheard (c .keys) (r .state .memory .keys) (r .state .memory .remembered) b b′) in
       alike-chosen (withinOf r) _ _ _ _
       (alike-chosen (isOut r c) _ _ _ _ (refl, (λ k. refl)) (ap (λ (t : Ticked). t .reply) ran, (λ k. ap (λ (t : Ticked). rekeyed k (t .next)) ran)))
@@ -149,9 +150,13 @@ module _ (r : Regulator) (i : Input) (n : ℕ) (b b′ : Buttons) where
 
   -- a button of the other pair, held or pressed, neither commands nor stops a command of the mode's pair: whatever its bits are on this
   -- tick, and were on the previous one, the reply is the same, and so is the next record but for the keys
-  pub other-pair-unheard : contactsOf n ≡ contactsWith now c → Alike (tickOf r″ (withContacts n i)) (tickOf r i)
-  other-pair-unheard e =
-      rw (tick-by r″ (withContacts n i), tick-by r i) (subst (λ (d : Contacts). Alike (tickBy r″ (withContacts n i) d) (tickBy r i c)) (sym e) by-contacts)
+  pub other-pair-unheard : (n : ℕ) → contactsOf n ≡ contactsWith now c → Alike (tickOf r″ (withContacts n i)) (tickOf r i)
+  other-pair-unheard n e =
+      rw (tick-by r″ (withContacts n i), tick-by r i) (subst (λ (d : Contacts). Alike (tickBy r″ (withContacts n i) d) (tickBy r i c)) (sym e) (by-contacts n))
+
+  -- and there is such a tick, whatever those bits are: a contact number of 32 bits that brings them
+  pub such-contacts : (contactsOf (contactNumber (contactsWith now c)) ≡ contactsWith now c) × (contactNumber (contactsWith now c) < 2 ^ 32)
+  such-contacts = (brings-them (contactsWith now c), of-32-bits (contactsWith now c))
 
 -- ---- the mode, and what each pair remembers
 
