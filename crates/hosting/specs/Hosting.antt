@@ -1,4 +1,4 @@
--- What the functions that a host calls answer. Definitions only.
+-- What a tick of an image answers. Definitions only.
 use Prim.Native.Nat.{ℕ}
 use mathlib.Core.Bool.{Bool, _&&_}
 use mathlib.Core.List.{List}
@@ -7,21 +7,15 @@ use Rattle.showing.specs.Showing.{fieldCount}
 use Rattle.common.specs.Choice.{choose}
 use Rattle.record.specs.declared.Regulator.{Regulator}
 use Rattle.record_limits.specs.Limits.{withinOf}
-use Rattle.record_starting.specs.Starting.{Start}
 use Rattle.rules.specs.declared.Ticked.{Ticked}
 use Rattle.rules.specs.Ticks.{tickOf}
 use Rattle.image.specs.declared.Image.{Image}
 use Rattle.image_input.specs.declared.Brought.{Brought}
 use Rattle.image.specs.Images.{numbersIn, imageWith, imageOf, recordOf}
 use Rattle.image_input.specs.Bringing.{inputOf}
-use Rattle.boundary.specs.declared.Started.{Started}
-use Rattle.boundary.specs.declared.ticking.Advanced.{Advanced}
-use Rattle.boundary.specs.declared.ticking.ImageTicked.{ImageTicked}
-use Rattle.boundary.specs.declared.ticking.Outputs.{Outputs}
-
--- the paper's number and slot, with the image of the record
-unfoldable pub startedImage : Start → Started
-startedImage s = record { number = s .number; slot = s .slot; image = imageOf (s .state) }
+use Rattle.hosting.specs.declared.Advanced.{Advanced}
+use Rattle.hosting.specs.declared.ImageTicked.{ImageTicked}
+use Rattle.hosting.specs.declared.Outputs.{Outputs}
 
 -- a tick's reply, with the image of the next record
 unfoldable pub tickedImage : Ticked → ImageTicked

@@ -1,21 +1,14 @@
--- What a tick of an image promises, and the start of one.
+-- What a tick of an image promises.
 -- Assumes nothing.
 use mathlib.Core.Path.{_≡_, refl, sym, ap, _∙_, subst}
 use mathlib.Core.Bool.{Bool, true, false, false≢true}
 use mathlib.Core.List.{List, _∷_}
-use mathlib.Core.Logic.{_↔_}
 use Prim.Native.Nat.{ℕ}
-use native.Mathlib.Omega.{arith}
 use Rattle.common.specs.Choice.{choose}
 use Rattle.common.proofs.Cases.{no, chosen}
 use lib.ListN.{length}
 use Rattle.record.specs.declared.Regulator.{Regulator}
-use Rattle.record_starting.specs.declared.Started.{Started}
 use Rattle.record_limits.specs.Limits.{withinOf}
-use Rattle.sheet.specs.declared.Answer.{Answer}
-use Rattle.sheet.specs.declared.Answer.the-variants.{Taken, WrongLength, OutOfRange, TapOrder, CountedTap}
-use Rattle.sheet.specs.Settings.{Settings}
-use Rattle.sheet.specs.Sheet.{numberOf}
 use Rattle.claim.specs.Claim.{Kept}
 use Rattle.record.specs.declared.State.{State}
 use Rattle.record.specs.Whole.{regulatorOf}
@@ -30,11 +23,11 @@ use Rattle.image_input.specs.declared.Brought.{Brought}
 use Rattle.image.specs.Images.{numbersOf, isState, stateOf, numbersIn, imageWith, imageOf, FromImage, recordOf}
 use Rattle.image.proofs.Whole.{taken-same}
 use Rattle.image_input.specs.Bringing.{inputOf}
-use Rattle.boundary.specs.declared.ticking.Advanced.{Advanced}
-use Rattle.boundary.specs.declared.ticking.ImageTicked.{ImageTicked}
-use Rattle.boundary.specs.Hosting.{tickedImage, advancedOf, refusedImage, isAccepted, imageTickOf, besidesOf, wholeOf}
-use Rattle.boundary.specs.Lists.{imageListFrom, imageOpening}
-use Rattle.boundary.proofs.Lists.{accepted-of, ticked-of, kept-on, none-accepted, none-ticked, none-kept}
+use Rattle.hosting.specs.declared.Advanced.{Advanced}
+use Rattle.hosting.specs.declared.ImageTicked.{ImageTicked}
+use Rattle.hosting.specs.Hosting.{tickedImage, advancedOf, refusedImage, isAccepted, imageTickOf, besidesOf, wholeOf}
+use Rattle.hosting.specs.Lists.{imageListFrom, imageOpening}
+use Rattle.hosting.proofs.Lists.{accepted-of, ticked-of, kept-on, none-accepted, none-ticked, none-kept}
 
 -- ---- the clauses of a tick that got m and b and gave t
 
@@ -138,18 +131,3 @@ pub image-made : (m : Image) (b : Brought) {n : Numbers} {x : Advanced} {t : Ima
     → t ≡ imageTickOf m b
 image-made m b p q u =
     rw (u, q, p) (ap (λ (s : List ℕ). wholeOf s (besidesOf (imageTickOf m b))) (sym (image-settings m b)))
-
--- number 0 is that of a list that is taken
-taken-of : (a : Answer) → numberOf a ≡ 0 → a ≡ Taken
-taken-of Taken p = refl
-taken-of WrongLength p = absurd (omega arith)
-taken-of (OutOfRange i) p = absurd (omega arith)
-taken-of (TapOrder i) p = absurd (omega arith)
-taken-of CountedTap p = absurd (omega arith)
-
-module _ (s : Started) {n : ℕ} (e : n ≡ numberOf (s .answer)) where
-  pub started-exactly : {l : List ℕ} → (s .answer ≡ Taken) ↔ Settings l → (n ≡ 0) ↔ Settings l
-  started-exactly h = ((λ z. h .0 (taken-of (s .answer) (sym e ∙ z))), (λ p. e ∙ ap numberOf (h .1 p)))
-
-  pub started-lasts : {m : Image} → (s .answer ≡ Taken → withinOf (s .state) ≡ true) → m ≡ imageOf (s .state) → n ≡ 0 → isAccepted m ≡ true
-  started-lasts h q z = ap isAccepted q ∙ accepted-of (s .state) ∙ h (taken-of (s .answer) (sym e ∙ z))

@@ -1,7 +1,7 @@
--- `boundary::ticking::with_settings` meets its contract, by what each call ensures. Assumes nothing.
+-- `hosting::with_settings` meets its contract, by what each call ensures. Assumes nothing.
 use borrow.Author.Needs.{needs}
-use Rattle.boundary.proofs.ticking.with_settings.Statement.{statement}
-use Rattle.boundary.proofs.ticking.with_settings.Tie as tie
+use Rattle.hosting.proofs.with_settings.Statement.{statement}
+use Rattle.hosting.proofs.with_settings.Tie as tie
 
 image-with-requires : tie.Need-image-with-requires
 image-with-requires c κs = search needs

@@ -1,8 +1,8 @@
--- `boundary::ticking::image_tick` meets its contract: the tick of the numbers, with the settings put back. Assumes nothing.
-use Rattle.boundary.proofs.Hosted.{image-made, hosted}
+-- `hosting::image_tick` meets its contract: the tick of the numbers, with the settings put back. Assumes nothing.
+use Rattle.hosting.proofs.Hosted.{image-made, hosted}
 use borrow.Author.Needs.{needs}
-use Rattle.boundary.proofs.ticking.image_tick.Statement.{statement}
-use Rattle.boundary.proofs.ticking.image_tick.Tie as tie
+use Rattle.hosting.proofs.image_tick.Statement.{statement}
+use Rattle.hosting.proofs.image_tick.Tie as tie
 
 numbers-in-requires : tie.Need-numbers-in-requires
 numbers-in-requires c κs = search needs

@@ -26,8 +26,8 @@ use Rattle.image_input.specs.declared.Brought.{Brought}
 use Rattle.image.specs.Images.{numbersOf, imageOf, recordOf}
 use Rattle.image_input.specs.Bringing.{inputOf}
 use Rattle.image.proofs.Whole.{back}
-use Rattle.boundary.specs.Hosting.{tickedImage, advancedOf, refusedImage, isAccepted, imageTickOf}
-use Rattle.boundary.specs.Lists.{imageSeen, imageLeftBy, imageSeenOn, imageTicksFrom, imageRests, imageOpening}
+use Rattle.hosting.specs.Hosting.{tickedImage, advancedOf, refusedImage, isAccepted, imageTickOf}
+use Rattle.hosting.specs.Lists.{imageSeen, imageLeftBy, imageSeenOn, imageTicksFrom, imageRests, imageOpening}
 use Rattle.claim.proofs.Refused.{Refused, refused-kept}
 
 -- the ticks of a list on m that opens as a call's does

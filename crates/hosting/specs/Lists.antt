@@ -13,8 +13,8 @@ use Rattle.image.specs.declared.Image.{Image}
 use Rattle.image_input.specs.declared.Brought.{Brought}
 use Rattle.image.specs.Images.{recordOf}
 use Rattle.image_input.specs.Bringing.{inputOf}
-use Rattle.boundary.specs.declared.ticking.ImageTicked.{ImageTicked}
-use Rattle.boundary.specs.Hosting.{isAccepted, imageTickOf}
+use Rattle.hosting.specs.declared.ImageTicked.{ImageTicked}
+use Rattle.hosting.specs.Hosting.{isAccepted, imageTickOf}
 
 -- the tick that starts at rest or not, got m and b, and gave t. *Delay in force*: "the one that rule 9 names on that tick", of the image's
 -- record

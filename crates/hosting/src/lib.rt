@@ -4,8 +4,8 @@ ghost use mathlib.Core.Bool.{false};
 ghost use mathlib.Core.List.{List};
 ghost use Rattle.common.specs.Choice.{choose};
 ghost use Rattle.claim.specs.Claim.{Kept};
-ghost use Rattle.boundary.specs.Lists.{imageListFrom, imageOpening};
-ghost use Rattle.boundary.specs.Hosting.{advancedOf, refusedImage, isAccepted, imageTickOf, besidesOf, wholeOf};
+ghost use Rattle.hosting.specs.Lists.{imageListFrom, imageOpening};
+ghost use Rattle.hosting.specs.Hosting.{advancedOf, refusedImage, isAccepted, imageTickOf, besidesOf, wholeOf};
 ghost use Rattle.record.specs.Whole.{regulatorOf};
 ghost use Rattle.image.specs.Images.{imageWith};
 use image::Image;
@@ -54,7 +54,7 @@ fn run(s: &[u32; SLOTS], m: State, b: Brought) -> Advanced
 }
 
 // Numbers that are no state's are refused as a record outside its limits is: 4, outputs all 0, the numbers left as they were.
-pub(crate) fn advance(s: &[u32; SLOTS], n: Numbers, b: Brought) -> Advanced
+pub fn advance(s: &[u32; SLOTS], n: Numbers, b: Brought) -> Advanced
     ensures { λ t. ⌜ t ≡ besidesOf (imageTickOf (imageWith (now (s .entry)) n) b) ⌝ }
 {
     if image::images::is_state(n) {
@@ -72,7 +72,7 @@ pub(crate) fn advance(s: &[u32; SLOTS], n: Numbers, b: Brought) -> Advanced
 }
 
 // The whole of it, with the settings put back.
-pub(crate) fn with_settings(settings: [u32; SLOTS], x: Advanced) -> ImageTicked
+pub fn with_settings(settings: [u32; SLOTS], x: Advanced) -> ImageTicked
     ensures { λ t. ⌜ t ≡ wholeOf settings x ⌝ }
 {
     let outputs = x.outputs;

@@ -1,9 +1,9 @@
--- `boundary::ticking::advance` meets its contract: the tick of the state that the numbers give, or its refusal. Assumes nothing.
-use Rattle.boundary.specs.Hosting.{refusedImage}
-use Rattle.boundary.proofs.Hosted.{state-advanced, none-advanced}
+-- `hosting::advance` meets its contract: the tick of the state that the numbers give, or its refusal. Assumes nothing.
+use Rattle.hosting.specs.Hosting.{refusedImage}
+use Rattle.hosting.proofs.Hosted.{state-advanced, none-advanced}
 use borrow.Author.Needs.{needs}
-use Rattle.boundary.proofs.ticking.advance.Statement.{statement}
-use Rattle.boundary.proofs.ticking.advance.Tie as tie
+use Rattle.hosting.proofs.advance.Statement.{statement}
+use Rattle.hosting.proofs.advance.Tie as tie
 
 is-state-requires : tie.Need-is-state-requires
 is-state-requires c κs = search needs

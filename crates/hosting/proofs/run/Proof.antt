@@ -1,8 +1,8 @@
--- `boundary::ticking::run` meets its contract, by what each call ensures. Assumes nothing.
-use Rattle.boundary.proofs.Hosted.{run-made}
+-- `hosting::run` meets its contract, by what each call ensures. Assumes nothing.
+use Rattle.hosting.proofs.Hosted.{run-made}
 use borrow.Author.Needs.{needs}
-use Rattle.boundary.proofs.ticking.run.Statement.{statement}
-use Rattle.boundary.proofs.ticking.run.Tie as tie
+use Rattle.hosting.proofs.run.Statement.{statement}
+use Rattle.hosting.proofs.run.Tie as tie
 
 input-of-requires : tie.Need-input-of-requires
 input-of-requires c κs = search needs
