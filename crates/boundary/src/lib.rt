@@ -38,7 +38,7 @@ pub extern "C" fn avr_start(list: &[u32]) -> Started
     let state = s.state;
     let number = sheet::number(a);
     let slot = sheet::slot(a);
-    let image = image::images::image_of(state);
+    let image = image_writing::image_of(state);
     Started {
         number: number,
         slot: slot,
@@ -82,7 +82,7 @@ pub extern "C" fn avr_tick_by_value(image: Image, brought: Brought) -> ImageTick
         ⌜ ((later : List Brought) → Kept (imageOpening image) (imageListFrom image brought t later)) ⌝ }
 {
     let settings = image.settings;
-    let before = image::images::numbers_in(image);
+    let before = image_reading::numbers_in(image);
     let x = hosting::advance(&settings, before, brought);
     hosting::with_settings(settings, x)
 }

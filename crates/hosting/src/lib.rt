@@ -45,7 +45,7 @@ fn run(s: &[u32; SLOTS], m: State, b: Brought) -> Advanced
     let reply = x.reply;
     let fields = reply.outputs;
     let after = x.state;
-    let numbers = image::images::numbers_of(after);
+    let numbers = image_writing::numbers_of(after);
     Advanced {
         refusal: reply.refusal,
         outputs: Outputs { fields: fields },
@@ -57,8 +57,8 @@ fn run(s: &[u32; SLOTS], m: State, b: Brought) -> Advanced
 pub fn advance(s: &[u32; SLOTS], n: Numbers, b: Brought) -> Advanced
     ensures { λ t. ⌜ t ≡ besidesOf (imageTickOf (imageWith (now (s .entry)) n) b) ⌝ }
 {
-    if image::images::is_state(n) {
-        let state = image::images::state_of(n);
+    if image_reading::is_state(n) {
+        let state = image_reading::state_of(n);
         run(s, state, b)
     } else {
         Advanced {
@@ -77,7 +77,7 @@ pub fn with_settings(settings: [u32; SLOTS], x: Advanced) -> ImageTicked
 {
     let outputs = x.outputs;
     let after = x.numbers;
-    let next = image::images::image_with(settings, after);
+    let next = image_writing::image_with(settings, after);
     ImageTicked {
         refusal: x.refusal,
         outputs: outputs,
@@ -95,7 +95,7 @@ pub fn image_tick(m: Image, b: Brought) -> ImageTicked
     ensures lists { λ t. ⌜ ((later : List Brought) → Kept (imageOpening m) (imageListFrom m b t later)) ⌝ }
 {
     let settings = m.settings;
-    let before = image::images::numbers_in(m);
+    let before = image_reading::numbers_in(m);
     let x = advance(&settings, before, b);
     with_settings(settings, x)
 }

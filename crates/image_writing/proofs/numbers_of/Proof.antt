@@ -1,8 +1,8 @@
--- `image::images::numbers_of` meets its contract, by what each call ensures. Assumes nothing.
-use Rattle.image.proofs.Whole.{numbers-made}
+-- `image_writing::numbers_of` meets its contract, by what each call ensures. Assumes nothing.
+use Rattle.image_writing.proofs.Made.{numbers-made}
 use borrow.Author.Needs.{needs}
-use Rattle.image.proofs.images.numbers_of.Statement.{statement}
-use Rattle.image.proofs.images.numbers_of.Tie as tie
+use Rattle.image_writing.proofs.numbers_of.Statement.{statement}
+use Rattle.image_writing.proofs.numbers_of.Tie as tie
 
 organ-numbers-requires : tie.Need-organ-numbers-requires
 organ-numbers-requires c κs = search needs

@@ -1,8 +1,8 @@
--- `image::images::state_of` meets its contract, by what each call ensures. Assumes nothing.
-use Rattle.image.proofs.Whole.{state-made}
+-- `image_reading::state_of` meets its contract, by what each call ensures. Assumes nothing.
+use Rattle.image_reading.proofs.Made.{state-made}
 use borrow.Author.Needs.{needs}
-use Rattle.image.proofs.images.state_of.Statement.{statement}
-use Rattle.image.proofs.images.state_of.Tie as tie
+use Rattle.image_reading.proofs.state_of.Statement.{statement}
+use Rattle.image_reading.proofs.state_of.Tie as tie
 
 organs-of-requires : tie.Need-organs-of-requires
 organs-of-requires c κs = search needs

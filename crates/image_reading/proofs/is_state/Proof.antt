@@ -1,8 +1,8 @@
--- `image::images::is_state` meets its contract, by what each call ensures. Assumes nothing.
+-- `image_reading::is_state` meets its contract, by what each call ensures. Assumes nothing.
 use Rattle.image.specs.Images.{isState}
 use borrow.Author.Needs.{needs}
-use Rattle.image.proofs.images.is_state.Statement.{statement}
-use Rattle.image.proofs.images.is_state.Tie as tie
+use Rattle.image_reading.proofs.is_state.Statement.{statement}
+use Rattle.image_reading.proofs.is_state.Tie as tie
 
 are-marks-requires : tie.Need-are-marks-requires
 are-marks-requires c κs = search needs

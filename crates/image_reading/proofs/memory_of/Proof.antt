@@ -1,8 +1,8 @@
--- `image::images::memory_of` meets its contract, by what each call ensures. Assumes nothing.
+-- `image_reading::memory_of` meets its contract, by what each call ensures. Assumes nothing.
 use Rattle.image.specs.Images.{stateOf}
 use borrow.Author.Needs.{needs}
-use Rattle.image.proofs.images.memory_of.Statement.{statement}
-use Rattle.image.proofs.images.memory_of.Tie as tie
+use Rattle.image_reading.proofs.memory_of.Statement.{statement}
+use Rattle.image_reading.proofs.memory_of.Tie as tie
 
 wait-of-requires : tie.Need-wait-of-requires
 wait-of-requires c κs = search needs

@@ -1,9 +1,9 @@
--- `image::images::image_of` meets its contract, by what each call ensures. Assumes nothing.
+-- `image_writing::image_of` meets its contract, by what each call ensures. Assumes nothing.
 use Rattle.image.specs.Images.{imageOf}
-use Rattle.image.proofs.Whole.{imaged}
+use Rattle.image_writing.proofs.Made.{imaged}
 use borrow.Author.Needs.{needs}
-use Rattle.image.proofs.images.image_of.Statement.{statement}
-use Rattle.image.proofs.images.image_of.Tie as tie
+use Rattle.image_writing.proofs.image_of.Statement.{statement}
+use Rattle.image_writing.proofs.image_of.Tie as tie
 
 numbers-of-requires : tie.Need-numbers-of-requires
 numbers-of-requires c κs = search needs

@@ -1,7 +1,8 @@
+-- `image_writing::way_numbers` meets its contract, by what each call ensures. Assumes nothing.
 use Rattle.image.specs.Images.{wayNumbers}
 use borrow.Author.Needs.{needs}
-use Rattle.image.proofs.images.way_numbers.Statement.{statement}
-use Rattle.image.proofs.images.way_numbers.Tie as tie
+use Rattle.image_writing.proofs.way_numbers.Statement.{statement}
+use Rattle.image_writing.proofs.way_numbers.Tie as tie
 
 way-number-requires : tie.Need-way-number-requires
 way-number-requires c κs = search needs
