@@ -11,7 +11,7 @@ use Rattle.blocks.specs.declared.Blocks.{Blocks}
 use Rattle.command.specs.declared.Decided.{Decided}
 use Rattle.command.specs.declared.Memory.{Memory}
 use Rattle.command_deciding.specs.Deciding.{decidedOf}
-use Rattle.sensing.specs.declared.assessing.Assessed.{Assessed}
+use Rattle.sensing_assessing.specs.declared.Assessed.{Assessed}
 use Rattle.acting_commanding.specs.declared.Noted.{Noted}
 use Rattle.acting_commanding.specs.declared.Regulated.{Regulated}
 use Rattle.busbar_level.specs.Levels.{isInBand}
