@@ -1,7 +1,8 @@
+-- `fault_latch::latched` meets its contract, by what each call ensures. Assumes nothing.
 use Rattle.fault.specs.Latches.{latchedOf}
 use borrow.Author.Needs.{needs}
-use Rattle.fault.proofs.latched.Statement.{statement}
-use Rattle.fault.proofs.latched.Tie as tie
+use Rattle.fault_latch.proofs.latched.Statement.{statement}
+use Rattle.fault_latch.proofs.latched.Tie as tie
 
 later-requires : tie.Need-later-requires
 later-requires c κs = search needs

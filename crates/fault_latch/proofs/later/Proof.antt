@@ -1,8 +1,9 @@
+-- `fault_latch::later` meets its contract: each branch is a choice of the definition. Assumes nothing.
 use Rattle.common.proofs.Cases.{cases}
 use Rattle.fault.specs.Latches.{laterOf}
 use borrow.Author.Needs.{needs}
-use Rattle.fault.proofs.later.Statement.{statement}
-use Rattle.fault.proofs.later.Tie as tie
+use Rattle.fault_latch.proofs.later.Statement.{statement}
+use Rattle.fault_latch.proofs.later.Tie as tie
 
 is-fault-requires : tie.Need-is-fault-requires
 is-fault-requires c κs = search needs

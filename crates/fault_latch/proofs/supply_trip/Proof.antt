@@ -1,6 +1,7 @@
+-- `fault_latch::supply_trip` meets its contract, by what each call ensures. Assumes nothing.
 use borrow.Author.Needs.{needs}
-use Rattle.fault.proofs.supply_trip.Statement.{statement}
-use Rattle.fault.proofs.supply_trip.Tie as tie
+use Rattle.fault_latch.proofs.supply_trip.Statement.{statement}
+use Rattle.fault_latch.proofs.supply_trip.Tie as tie
 
 trips-supply-requires : tie.Need-trips-supply-requires
 trips-supply-requires c κs = search needs

@@ -1,6 +1,7 @@
+-- `fault_latch::latch_within` meets its contract, by what each call ensures. Assumes nothing.
 use borrow.Author.Needs.{needs}
-use Rattle.fault.proofs.latch_within.Statement.{statement}
-use Rattle.fault.proofs.latch_within.Tie as tie
+use Rattle.fault_latch.proofs.latch_within.Statement.{statement}
+use Rattle.fault_latch.proofs.latch_within.Tie as tie
 
 is-fault-requires : tie.Need-is-fault-requires
 is-fault-requires c κs = search needs

@@ -1,7 +1,8 @@
+-- `fault_latch::reset` meets its contract: each branch is a choice of the definition. Assumes nothing.
 use Rattle.common.proofs.Cases.{cases}
 use Rattle.fault.specs.Latches.{resetOf}
-use Rattle.fault.proofs.reset.Statement.{statement}
-use Rattle.fault.proofs.reset.Tie as tie
+use Rattle.fault_latch.proofs.reset.Statement.{statement}
+use Rattle.fault_latch.proofs.reset.Tie as tie
 
 returns : tie.Need-returns
 unfolding resetOf
