@@ -15,7 +15,7 @@ use Rattle.command.specs.declared.Memory.{Memory}
 use Rattle.command_pairs.specs.Pairs.{pairOf, changedOf, heardOf}
 use Rattle.command_deciding.proofs.Presses.{none-begins}
 use Rattle.command_pairs.proofs.TwoPairs.{change-drops, held-through}
-use Rattle.sensing.specs.declared.assessing.Assessed.{Assessed}
+use Rattle.sensing_assessing.specs.declared.Assessed.{Assessed}
 use Rattle.acting_commanding.specs.Commanding.{askOf, heardIn, situationOf, decisionOf, regulatedOf, dropsOf, keptPressOf}
 
 -- the contacts with these keys

@@ -19,7 +19,7 @@ use Rattle.command_automatic.specs.Automatic.{repeatOf}
 use Rattle.command_deciding.specs.Deciding.{decidedOf}
 use Rattle.command_manual.specs.Manual.{rememberedOf}
 use Rattle.command_pairs.specs.Pairs.{heardOf}
-use Rattle.sensing.specs.declared.assessing.Assessed.{Assessed}
+use Rattle.sensing_assessing.specs.declared.Assessed.{Assessed}
 use Rattle.acting_commanding.specs.declared.Noted.{Noted}
 use Rattle.acting_commanding.specs.declared.Regulated.{Regulated}
 use Rattle.busbar_level.specs.Levels.{sideOf, isInBand}

@@ -10,7 +10,7 @@ use command_pairs::Heard;
 use drive::Drive;
 use fault::Fault;
 use input::Contacts;
-use sensing::assessing::Assessed;
+use sensing_assessing::Assessed;
 use slots::SLOTS;
 use ways::Way;
 

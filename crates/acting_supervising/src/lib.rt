@@ -88,10 +88,10 @@ pub fn supervise(
 ) -> Supervised
     ensures { λ r. ⌜ r ≡ supervisedOf (now (s .entry)) c x d l last ⌝ }
 {
-    let cleared = fault::reset(l, c.reset);
+    let cleared = fault_latch::reset(l, c.reset);
     let moved = followed(s, c, x, d, cleared, last);
     let new = moved.fault;
-    let latch = fault::latched(cleared, new, s[T8]);
+    let latch = fault_latch::latched(cleared, new, s[T8]);
     let drive = moved.drive;
     let ended = moved.ended;
     Supervised {

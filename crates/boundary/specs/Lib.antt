@@ -1,2 +1,1 @@
-pub mod Hosting
-pub mod Lists
+pub mod Starting

@@ -8,13 +8,11 @@ ghost use Rattle.common.specs.Choice.{choose};
 ghost use Rattle.sheet.specs.Settings.{Settings};
 ghost use Rattle.record_starting.specs.Starting.{startOf};
 ghost use Rattle.claim.specs.Claim.{Kept};
-ghost use Rattle.boundary.specs.Hosting.{startedImage, refusedImage, isAccepted, imageTickOf, foundOf};
-ghost use Rattle.boundary.specs.Lists.{imageListFrom, imageOpening};
-
-pub mod ticking;
-
-use crate::ticking::ImageTicked;
-use crate::ticking::Outputs;
+ghost use Rattle.hosting.specs.Hosting.{refusedImage, isAccepted, imageTickOf, foundOf};
+ghost use Rattle.hosting.specs.Lists.{imageListFrom, imageOpening};
+ghost use Rattle.boundary.specs.Starting.{startedImage};
+use hosting::ImageTicked;
+use hosting::Outputs;
 use image::Image;
 use image_input::Brought;
 
@@ -40,7 +38,7 @@ pub extern "C" fn avr_start(list: &[u32]) -> Started
     let state = s.state;
     let number = sheet::number(a);
     let slot = sheet::slot(a);
-    let image = image::images::image_of(state);
+    let image = image_writing::image_of(state);
     Started {
         number: number,
         slot: slot,
@@ -67,7 +65,7 @@ pub extern "C" fn avr_tick(image: &mut Image, brought: &Brought, outputs: &mut O
         (imageListFrom (now (image .entry)) (now (brought .entry)) (foundOf n (now (outputs .exit)) (now (image .exit))) later))
         ⌝ }
 {
-    let x = ticking::image_tick(*image, *brought);
+    let x = hosting::image_tick(*image, *brought);
     *image = x.next;
     *outputs = x.outputs;
     x.refusal
@@ -84,7 +82,7 @@ pub extern "C" fn avr_tick_by_value(image: Image, brought: Brought) -> ImageTick
         ⌜ ((later : List Brought) → Kept (imageOpening image) (imageListFrom image brought t later)) ⌝ }
 {
     let settings = image.settings;
-    let before = image::images::numbers_in(image);
-    let x = ticking::advance(&settings, before, brought);
-    ticking::with_settings(settings, x)
+    let before = image_reading::numbers_in(image);
+    let x = hosting::advance(&settings, before, brought);
+    hosting::with_settings(settings, x)
 }

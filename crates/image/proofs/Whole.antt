@@ -2,36 +2,20 @@
 -- Assumes nothing.
 use mathlib.Core.Path.{_≡_, refl, sym, ap, _∙_}
 use mathlib.Core.Bool.{Bool, true, false, _&&_}
-use mathlib.Core.List.{List}
-use Prim.Native.Nat.{ℕ}
 use lib.ListN.{length}
 use Rattle.common.specs.Choice.{choose}
-use Rattle.common.proofs.Cases.{yes, no}
 use Rattle.common.proofs.Joined.{and-left, and-right}
-use Rattle.organ.specs.declared.Organ.{Organ}
-use Rattle.drive.specs.declared.Drive.{Drive}
-use Rattle.fault.specs.declared.Fault.{Fault}
-use Rattle.ways.specs.declared.Way.{Way}
-use Rattle.command.specs.declared.Wait.{Wait}
-use Rattle.keys.specs.declared.Keys.{Keys}
 use Rattle.record.specs.declared.Regulator.{Regulator}
 use Rattle.record.specs.declared.State.{State}
-use Rattle.command.specs.declared.Memory.{Memory}
-use Rattle.record_starting.specs.Starting.{zerosOf}
 use Rattle.image.specs.declared.Image.{Image}
 use Rattle.image.specs.declared.Numbers.{Numbers}
-use Rattle.coding_drive.specs.declared.DriveImage.{DriveImage}
-use Rattle.coding_wait.specs.declared.WaitImage.{WaitImage}
-use Rattle.coding_keys.specs.declared.KeyImage.{KeyImage}
-use Rattle.image.specs.declared.images.WayNumbers.{WayNumbers}
-use Rattle.image_organs.specs.declared.OrganNumbers.{OrganNumbers}
-use Rattle.coding_ways.specs.Numbers.{isWay, wayOf}
-use Rattle.coding_fault.specs.Numbers.{faultNumber, isFault, faultOf}
-use Rattle.coding_drive.specs.Numbers.{driveImage, driveOf, isDrive}
-use Rattle.coding_wait.specs.Numbers.{waitImage, waitOf, isWait}
-use Rattle.coding_keys.specs.Numbers.{keyImage, keysOf, areKeys}
-use Rattle.image_organs.specs.Places.{organNumbers, organsOf, areMarks}
-use Rattle.image.specs.Images.{wayNumbers, numbersOf, isState, stateOf, numbersIn, imageWith, imageOf, FromImage, takenOf, recordOf}
+use Rattle.coding_ways.specs.Numbers.{isWay}
+use Rattle.coding_fault.specs.Numbers.{isFault}
+use Rattle.coding_drive.specs.Numbers.{isDrive}
+use Rattle.coding_wait.specs.Numbers.{isWait}
+use Rattle.coding_keys.specs.Numbers.{areKeys}
+use Rattle.image_organs.specs.Places.{areMarks}
+use Rattle.image.specs.Images.{wayNumbers, numbersOf, isState, stateOf, numbersIn, imageWith, imageOf, takenOf, recordOf}
 use Rattle.coding_ways.proofs.Cases.{way-back, way-is, way-same}
 use Rattle.coding_fault.proofs.Cases.{fault-back, fault-is, fault-same}
 use Rattle.coding_drive.proofs.Cases.{drive-back, drive-is, drive-same}
@@ -123,50 +107,6 @@ module _ (m : Numbers) (p : isState m ≡ true) where
         way-same _ (parts .6),
         keys-same _ (parts .7),
       )
-
--- ---- over plain values, as the functions ask it
-
-module _ (m : State) {n : OrganNumbers} {d : DriveImage} {f : ℕ} {w : WaitImage} {u : WayNumbers} {k : KeyImage} where
-  pub numbers-made : n ≡ organNumbers (m .organs) → d ≡ driveImage (m .drive) → f ≡ faultNumber (m .latch .fault) → w ≡ waitImage (m .memory .wait)
-      → u ≡ wayNumbers m
-      → k ≡ keyImage (m .memory .keys)
-      → _≡_ {A = Numbers}
-      (record {
-        «organ_marks» = n .marks;
-        «organ_counts» = n .counts;
-        drive = d;
-        fault = f;
-        «fault_age» = m .latch .age;
-        wait = w;
-        repeat = u .repeat;
-        last = u .last;
-        «counted_tap» = m .wear .«counted_tap»;
-        operations = m .wear .operations;
-        keys = k;
-        remembered = u .remembered;
-      })
-      (numbersOf m)
-  unfolding numbersOf
-  numbers-made en ed ef ew eu ek = rw (en, ed, ef, ew, eu, ek)
-
-module _ (n : Numbers) {os : List Organ} {d : Drive} {f : Fault} {m : Memory} {last : Way} where
-  pub state-made : os ≡ organsOf (n .«organ_marks») (n .«organ_counts») → d ≡ driveOf (n .drive) → f ≡ faultOf (n .fault)
-      → m ≡ stateOf n .memory
-      → last ≡ wayOf (n .last)
-      → _≡_ {A = State}
-      (record {
-        organs = os;
-        drive = d;
-        latch = record { fault = f; age = n .«fault_age» };
-        memory = m;
-        wear = record { last = last; operations = n .operations; «counted_tap» = n .«counted_tap» };
-      })
-      (stateOf n)
-  unfolding stateOf
-  state-made eo ed ef em el = rw (eo, ed, ef, em, el)
-
-pub imaged : (r : Regulator) {m : Image} → m ≡ imageOf r → (m ≡ imageOf r) × (recordOf m ≡ takenOf r)
-imaged r e = (e, rw e (back r))
 
 -- an image that is taken passes the test, and is the image of the record that it gives
 taken-is : (m : Image) (b : Bool) → isState (numbersIn m) ≡ b → recordOf m .taken ≡ true → b ≡ true

@@ -9,7 +9,7 @@ use Rattle.record.specs.Whole.{regulatorOf}
 use Rattle.record_starting.specs.Starting.{zerosOf}
 use Rattle.image.specs.declared.Image.{Image}
 use Rattle.image.specs.declared.Numbers.{Numbers}
-use Rattle.image.specs.declared.images.WayNumbers.{WayNumbers}
+use Rattle.image.specs.declared.WayNumbers.{WayNumbers}
 use Rattle.coding_ways.specs.Numbers.{wayNumber, isWay, wayOf}
 use Rattle.coding_fault.specs.Numbers.{faultNumber, isFault, faultOf}
 use Rattle.coding_drive.specs.Numbers.{driveImage, driveOf, isDrive}

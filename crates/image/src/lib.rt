@@ -1,7 +1,5 @@
 // The host's image of the record: the record in numbers alone, since no enum may cross the boundary and a host is not trusted
-// to hand over a bool. One image for each record, and functions there and back.
-pub mod images;
-
+// to hand over a bool. One image for each record, there and back: types, definitions and laws, no code.
 use coding_drive::DriveImage;
 use coding_keys::KeyImage;
 use coding_wait::WaitImage;
@@ -39,5 +37,12 @@ pub struct Numbers {
     pub counted_tap: u32,
     pub operations: u32,
     pub keys: KeyImage,
+    pub remembered: u32,
+}
+
+// The directions that a state remembers, in numbers.
+pub struct WayNumbers {
+    pub repeat: u32,
+    pub last: u32,
     pub remembered: u32,
 }

@@ -1,3 +1,4 @@
+pub mod Made
 pub mod OfKind
 pub mod Opened
 pub mod Waits

@@ -70,7 +70,7 @@ fn motion_within(s: &[u32; SLOTS], d: Drive, w: Wait, l: Latch) -> bool
     let f = l.fault;
     let moves = kind_within(s, d, f);
     let fault = fault::is_fault(f);
-    let latched = fault::latch_within(l, s[T8]);
+    let latched = fault_latch::latch_within(l, s[T8]);
     (ticks <= LONGEST_WAIT) & (rests | (ticks == 0)) & moves & (!fault | rests) & latched
 }
 

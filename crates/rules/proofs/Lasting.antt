@@ -46,7 +46,7 @@ use Rattle.acting_commanding.specs.declared.Noted.{Noted}
 use Rattle.acting_supervising.proofs.EachKind.{faulty-stays, fault-stops, held-kept, contact-kept}
 use Rattle.acting_commanding.proofs.Presses.{fault-drops}
 use Rattle.input.specs.declared.Contacts.{Contacts}
-use Rattle.sensing.specs.Protecting.{organInputOf, organInputsOf}
+use Rattle.sensing_protecting.specs.Protecting.{organInputOf, organInputsOf}
 use Rattle.input.specs.declared.Readings.{Readings}
 
 -- ---- the parts of a record within its limits

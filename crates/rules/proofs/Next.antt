@@ -32,7 +32,7 @@ use Rattle.record_starting.proofs.Starts.{fresh-within}
 use Rattle.acting_accounting.specs.Accounting.{mostOperations, accountedOf}
 use Rattle.acting_judging.specs.Judging.{blockedOf}
 use Rattle.acting_commanding.specs.Commanding.{askOf, situationOf, decisionOf, keptPressOf, regulatedOf}
-use Rattle.sensing.specs.Protecting.{protectedOf}
+use Rattle.sensing_protecting.specs.Protecting.{protectedOf}
 use Rattle.acting_supervising.specs.Supervising.{supervisedOf}
 use Rattle.acting_supervising.specs.declared.Supervised.{Supervised}
 use Rattle.sensing.specs.declared.Sensed.{Sensed}

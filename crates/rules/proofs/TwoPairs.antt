@@ -25,8 +25,8 @@ use Rattle.record.specs.declared.Regulator.{Regulator}
 use Rattle.record.specs.Whole.{regulatorOf}
 use Rattle.record_limits.specs.Limits.{motionWithin, pressWithin, countsWithin, withinOf}
 use Rattle.record_starting.specs.Starting.{localKeys, freshOf}
-use Rattle.sensing.specs.Observing.{observedOf}
-use Rattle.sensing.specs.Assessing.{assessedOf}
+use Rattle.sensing_observing.specs.Observing.{observedOf}
+use Rattle.sensing_assessing.specs.Assessing.{assessedOf}
 use Rattle.acting_supervising.specs.declared.Supervised.{Supervised}
 use Rattle.acting_judging.specs.Judging.{blockedOf}
 use Rattle.acting_supervising.specs.Supervising.{contactOf, clearedOf, holdingOf, followedOf, supervisedOf}

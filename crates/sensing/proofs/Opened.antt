@@ -1,15 +1,9 @@
 -- What worked lists compute with, under one name: the definitions of this crate, and what is below them.
-use Rattle.organ.proofs.Opened as of-organ
-use Rattle.input.proofs.Opened as of-input
-use Rattle.tap_position.proofs.Opened as of-tap-position
-use Rattle.busbar_section.proofs.Opened as of-busbar-section
-use Rattle.busbar_compensation.proofs.Opened as of-busbar-compensation
-use Rattle.busbar_deviation.proofs.Opened as of-busbar-deviation
-use Rattle.sensing.specs.Assessing.{uOf, assessedOf}
-use Rattle.sensing.specs.Observing.{observedOf}
+use Rattle.sensing_observing.proofs.Opened as of-sensing-observing
+use Rattle.sensing_protecting.proofs.Opened as of-sensing-protecting
+use Rattle.sensing_assessing.proofs.Opened as of-sensing-assessing
 use Rattle.sensing.specs.Sensing.{sensedOf}
-use Rattle.sensing.specs.Protecting.{amountOf, organInputOf, organInputsOf, protectedOf}
 
 unfoldable pub opened : Unit {0}
-unfolding sensedOf uOf assessedOf observedOf amountOf organInputOf organInputsOf protectedOf of-organ.opened of-input.opened of-tap-position.opened of-busbar-section.opened of-busbar-compensation.opened of-busbar-deviation.opened
+unfolding sensedOf of-sensing-observing.opened of-sensing-protecting.opened of-sensing-assessing.opened
 opened = tt

@@ -1,4 +1,1 @@
-pub mod Observing
-pub mod Protecting
-pub mod Assessing
 pub mod Sensing

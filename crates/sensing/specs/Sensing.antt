@@ -5,10 +5,10 @@ use Rattle.input.specs.declared.Contacts.{Contacts}
 use Rattle.input.specs.declared.Input.{Input}
 use Rattle.organ.specs.declared.Organ.{Organ}
 use Rattle.sensing.specs.declared.Sensed.{Sensed}
-use Rattle.sensing.specs.declared.observing.Observed.{Observed}
-use Rattle.sensing.specs.Observing.{observedOf}
-use Rattle.sensing.specs.Protecting.{protectedOf}
-use Rattle.sensing.specs.Assessing.{assessedOf}
+use Rattle.sensing_observing.specs.declared.Observed.{Observed}
+use Rattle.sensing_observing.specs.Observing.{observedOf}
+use Rattle.sensing_protecting.specs.Protecting.{protectedOf}
+use Rattle.sensing_assessing.specs.Assessing.{assessedOf}
 
 -- rules 3 and 4 have given o; rule 5, the organs; rule 6, the voltage and its side
 abbrev pub sensedFrom : List ℕ → List Organ → Input → Contacts → Observed → Sensed

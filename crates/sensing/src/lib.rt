@@ -1,17 +1,12 @@
 // Rules 3 to 6: what is there. Each rule, called with what it needs of the record, the sheet and the rules before it.
 ghost use mathlib.Core.Path.{_≡_};
 ghost use Rattle.sensing.specs.Sensing.{sensedOf};
-
-pub mod assessing;
-pub mod observing;
-pub mod protecting;
-
-use assessing::Assessed;
 use input::Contacts;
 use input::Input;
-use observing::Observed;
 use organ::Organ;
 use organ::Organs;
+use sensing_assessing::Assessed;
+use sensing_observing::Observed;
 use slots::SLOTS;
 
 pub struct Sensed {
@@ -24,11 +19,11 @@ pub struct Sensed {
 pub fn sense(s: &[u32; SLOTS], organs: [Organ; 7], counted: u32, i: Input, c: Contacts) -> Sensed
     ensures { λ x. ⌜ x ≡ sensedOf (now (s .entry)) organs counted i c ⌝ }
 {
-    let observed = observing::observe(s, i, c.breaker_closed, counted);
+    let observed = sensing_observing::observe(s, i, c.breaker_closed, counted);
     let readings = observed.readings;
-    let stepped = protecting::protect(s, organs, readings, observed.section);
+    let stepped = sensing_protecting::protect(s, organs, readings, observed.section);
     let phasors = i.phasors;
-    let assessed = assessing::assess(s, readings, phasors, c);
+    let assessed = sensing_assessing::assess(s, readings, phasors, c);
     Sensed {
         observed: observed,
         organs: stepped,

@@ -85,7 +85,7 @@ fn signals_of(s: &[u32; SLOTS], x: Shown) -> Signals
     let low = is_low(level);
     let high = is_high(level);
     let field = fault::fault_field(fault);
-    let supply = fault::supply_trip(fault, x.before, s[T8], s[SUPPLY_TRIP] == 1);
+    let supply = fault_latch::supply_trip(fault, x.before, s[T8], s[SUPPLY_TRIP] == 1);
     let rests = drive_follow::rests(d);
     let operations = shown_operations(s[WEAR_COUNT] == 1, x.operations);
     Signals {

@@ -38,8 +38,8 @@ use Rattle.line_current.specs.Pair.{byParts}
 use Rattle.line.specs.Along.{alongOf}
 use Rattle.line.proofs.Facts.{taken-along}
 use Rattle.organ.specs.declared.Organ.{Organ}
-use Rattle.sensing.specs.Assessing.{uOf, assessedOf}
-use Rattle.sensing.specs.Observing.{countsOf, observedOf}
+use Rattle.sensing_assessing.specs.Assessing.{uOf, assessedOf}
+use Rattle.sensing_observing.specs.Observing.{countsOf, observedOf}
 use Rattle.sensing.specs.Sensing.{sensedOf}
 use Rattle.voltage_present.specs.Needed.{missingOrHeld, lacks, amperesOf, namesBus, namesCoupler, uMissing}
 use Rattle.voltage_present.proofs.Lacking.{reading-missing, gone, partsLack, pair-gone, parts-joined, remains-gone, magnitude-missing, or-false, picked-lost, range-by-k}

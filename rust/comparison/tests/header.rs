@@ -214,9 +214,9 @@ const STRUCTS: [(&str, &str, &str, &str); 9] = [
     ("image/src/lib.rt", "Image", "avr_image", "Image"),
     ("image_input/src/lib.rt", "Sample", "avr_sample", "Sample"),
     ("image_input/src/lib.rt", "Brought", "avr_brought", "Brought"),
-    ("boundary/src/ticking.rt", "Outputs", "avr_outputs", "Outputs"),
+    ("hosting/src/lib.rt", "Outputs", "avr_outputs", "Outputs"),
     ("boundary/src/lib.rt", "Started", "avr_started", "Started"),
-    ("boundary/src/ticking.rt", "ImageTicked", "avr_ticked", "Ticked"),
+    ("hosting/src/lib.rt", "ImageTicked", "avr_ticked", "Ticked"),
 ];
 
 /// Rust has the readings in one list.

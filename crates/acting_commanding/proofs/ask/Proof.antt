@@ -1,3 +1,4 @@
+-- `acting_commanding::ask` meets its contract: each case of the command. Assumes nothing.
 use Rattle.acting_commanding.proofs.Parts.{parts}
 use borrow.Author.Needs.{needs}
 use Rattle.acting_commanding.proofs.ask.Statement.{statement}

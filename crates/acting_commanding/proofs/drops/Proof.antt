@@ -1,4 +1,5 @@
-use Rattle.acting_commanding.specs.Commanding.{dropsOf}
+-- `acting_commanding::drops` meets its contract, by what each call ensures. Assumes nothing.
+use Rattle.acting_commanding.proofs.Made.{drops-made}
 use borrow.Author.Needs.{needs}
 use Rattle.acting_commanding.proofs.drops.Statement.{statement}
 use Rattle.acting_commanding.proofs.drops.Tie as tie
@@ -7,8 +8,7 @@ is-fault-requires : tie.Need-is-fault-requires
 is-fault-requires c κs = search needs
 
 returns : tie.Need-returns
-unfolding dropsOf
-returns c = cc
+returns c = search drops-made
 
 pub drops-spec : {M : Type 1} → statement M
 drops-spec = tie.close (tie.spec is-fault-requires returns)

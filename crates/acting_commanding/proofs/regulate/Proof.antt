@@ -1,3 +1,4 @@
+-- `acting_commanding::regulate` meets its contract, by what each call ensures. Assumes nothing.
 use Rattle.acting_commanding.proofs.Made.{regulate-made}
 use borrow.Author.Needs.{needs}
 use Rattle.acting_commanding.proofs.regulate.Statement.{statement}

@@ -1,6 +1,6 @@
 -- `boundary::avr_start` meets its contract, by what each call ensures. Assumes nothing.
-use Rattle.boundary.proofs.Hosted.{started-exactly, started-lasts}
-use Rattle.boundary.specs.Hosting.{startedImage}
+use Rattle.boundary.proofs.Starts.{started-exactly, started-lasts}
+use Rattle.boundary.specs.Starting.{startedImage}
 use borrow.Author.Needs.{needs}
 use Rattle.boundary.proofs.avr_start.Statement.{statement}
 use Rattle.boundary.proofs.avr_start.Tie as tie

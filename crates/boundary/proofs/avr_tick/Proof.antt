@@ -35,25 +35,25 @@ use denote.Triple.Spec.{Meets, tripleOf}
 use denote.Triple.Table.{entered, cited}
 use denote.Triple.Walked.{Stays, stay-ref, stay-none-ref, walkOf, goes-none-ref, goes-ref, Walks, ends-at, walked, walk-meets}
 use denote.Exit.{yes}
-use Rattle.boundary.proofs.Hosted.{Promised}
+use Rattle.hosting.proofs.Hosted.{Promised}
 use Rattle.image.specs.declared.Image.{Image}
 use Rattle.image_input.specs.declared.Brought.{Brought}
 use Rattle.common.proofs.LentThree.{walks}
 use Rattle.common.proofs.Walks.{says-all, beside, both}
-use Rattle.boundary.specs.declared.ticking.ImageTicked.{ImageTicked}
-use Rattle.boundary.specs.declared.ticking.Outputs.{Outputs}
+use Rattle.hosting.specs.declared.ImageTicked.{ImageTicked}
+use Rattle.hosting.specs.declared.Outputs.{Outputs}
 use Rattle.image.proofs.Image as R
 use Rattle.image.proofs.Image.Laws as R′
 use Rattle.image_input.proofs.Brought as T
 use Rattle.image_input.proofs.Brought.Laws as T′
-use Rattle.boundary.proofs.ticking.Outputs as O
-use Rattle.boundary.proofs.ticking.Outputs.Laws as O′
-use Rattle.boundary.proofs.ticking.ImageTicked as X
-use Rattle.boundary.proofs.ticking.ImageTicked.Laws as X′
-use Rattle.boundary.proofs.ticking.image_tick as tick
-use Rattle.boundary.proofs.ticking.image_tick.Symbol as tick-def
-use Rattle.boundary.proofs.ticking.image_tick.Symbol.{name as #boundary·ticking·image-tick}
-use Rattle.boundary.proofs.ticking.image_tick.Met as tick-thm
+use Rattle.hosting.proofs.Outputs as O
+use Rattle.hosting.proofs.Outputs.Laws as O′
+use Rattle.hosting.proofs.ImageTicked as X
+use Rattle.hosting.proofs.ImageTicked.Laws as X′
+use Rattle.hosting.proofs.image_tick as tick
+use Rattle.hosting.proofs.image_tick.Symbol as tick-def
+use Rattle.hosting.proofs.image_tick.Symbol.{name as #hosting·image-tick}
+use Rattle.hosting.proofs.image_tick.Met as tick-thm
 use Rattle.boundary.proofs.avr_tick.Key.{name as #boundary·avr-tick}
 use Rattle.boundary.proofs.avr_tick as f
 use Rattle.boundary.proofs.avr_tick.Statement as stated
@@ -150,14 +150,14 @@ module _ {M : Type 1} (𝓤 : URA M) (H : Heap 𝓤) (A : Atoms 𝓤) (W : Given
       peeks ! X.the-row (Is X.the-row) (shows 𝓤 H A X.the-row) x (v ∷ []) (λ is. drop ! $
       k x (e, is) (ap only (LL.tells X.the-type X′.the-laws x (v ∷ []) is)) (LL.lawful X.the-type X′.the-laws 𝓤 H A W .typed x _ is .0) (uint-lawful 𝓤 H A W w32 .typed (x .refusal) _ (is-refusal x v is) .0) (is-outputs x v is) (is-next x v is))))
 
-  module _ (C : Calls 𝓤 H) (Λ : Loops 𝓤 H) (fm : FmC 𝓤 H (W .laws) C) (known : Triple 𝓤 (C #boundary·ticking·image-tick) (Called 𝓤 H A at-mem run)) where
+  module _ (C : Calls 𝓤 H) (Λ : Loops 𝓤 H) (fm : FmC 𝓤 H (W .laws) C) (known : Triple 𝓤 (C #hosting·image-tick) (Called 𝓤 H A at-mem run)) where
     walk : ent 𝓤 (onEntry 𝓤 H A f.signature (κ, (κ′, (κ″, tt))) (q, (q′, (q″, tt))) a at) (WpFn 𝓤 H C Λ code.function (vptr b o ∷ vptr b′ o′ ∷ vptr b″ o″ ∷ []) Post)
     walk =
         qed W ((‵ (flft κ q) ⊛ ‵ (flft κ′ q′) ⊛ ‵ (flft κ″ q″) ⊛ ‵ ftrue) ∷ ‵ (owns (MutRef (named 0) κ R.the-row ∷ ShrRef (named 1) κ′ T.the-row ∷ MutRef (named 2) κ″ O.the-row ∷ []) a at) ∷ []) ∵
         split ! $ move ! (1 ∷ []) $ split ! $ move ! (1 ∷ []) $ split ! $ move ! (4 ∷ []) $ fsplit ! $ fsplit3 ! $ drop ! $ move ! (2 ∷ []) $ fsplit ! $ fsplit3 ! $ drop ! $ move ! (2 ∷ []) $ fsplit ! $ fsplit3 ! $ drop ! $
         keep ! (4 ∷ 9 ∷ 5 ∷ 6 ∷ 10 ∷ 0 ∷ 1 ∷ 7 ∷ 3 ∷ []) $
         -- [t's borrow, token; w's obs, borrow, token; out's obs, borrow, token; t's res]
-        walks 𝓤 H A W _ #boundary·ticking·image-tick (tyInt w32) _ _ _ R′.mir T′.mir O′.mir R.the-row T.the-row O.the-row
+        walks 𝓤 H A W _ #hosting·image-tick (tyInt w32) _ _ _ R′.mir T′.mir O′.mir R.the-row T.the-row O.the-row
         rval (LL.tells R.the-type R′.the-laws) (LL.lawful R.the-type R′.the-laws 𝓤 H A W) (LL.makes R.the-type R′.the-plain 𝓤 H A)
         tval (LL.tells T.the-type T′.the-laws) (LL.lawful T.the-type T′.the-laws 𝓤 H A W) (LL.copy T.the-type T′.the-copy 𝓤 H A W)
         oval (LL.tells O.the-type O′.the-laws) (LL.lawful O.the-type O′.the-laws 𝓤 H A W) (LL.makes O.the-type O′.the-plain 𝓤 H A)
@@ -166,12 +166,12 @@ module _ {M : Type 1} (𝓤 : URA M) (H : Heap 𝓤) (A : Atoms 𝓤) (W : Given
         ImageTicked (λ x. vint w32 (x .refusal)) (λ x. x .next) (λ x. x .outputs) (λ x v. Promised h t x × Is X.the-row x (v ∷ [])) gives Post (λ x v e. exits x v (e .0) (e .1))
 
 module _ {M : Type 1} (𝓤 : URA M) (H : Heap 𝓤) (A : Atoms 𝓤) (W : Given 𝓤 H A) (at-mem : Memory → SProp 𝓤) (run : Routine → Fun 𝓤) where
-  avr-tick-walks : (C : Calls 𝓤 H) (Λ : Loops 𝓤 H) → FmC 𝓤 H (W .laws) C → Triple 𝓤 (C #boundary·ticking·image-tick) (Called 𝓤 H A at-mem run) → Walks 𝓤 H A f.ended stayed (WpFn 𝓤 H C Λ code.function) (f.clauses 𝓤 H A at-mem run)
+  avr-tick-walks : (C : Calls 𝓤 H) (Λ : Loops 𝓤 H) → FmC 𝓤 H (W .laws) C → Triple 𝓤 (C #hosting·image-tick) (Called 𝓤 H A at-mem run) → Walks 𝓤 H A f.ended stayed (WpFn 𝓤 H C Λ code.function) (f.clauses 𝓤 H A at-mem run)
   avr-tick-walks C Λ fm known = walked 𝓤 H A f.ended stayed (f.clauses 𝓤 H A at-mem run) (WpFn 𝓤 H C Λ code.function) (λ κs. (ptr-vals, (ptr-vals, (ptr-vals, tt)))) (λ κs. (mut-tells (named 0) (κs .0) R.the-row, (shr-tells (named 1) (κs .1 .0) T.the-row, (mut-tells (named 2) (κs .1 .1 .0) O.the-row, tt))))
       (λ κs qs bounds a _ _. via 𝓤 _ (fst∗ 𝓤 _ (emp 𝓤)) (walk 𝓤 H A W at-mem run (κs .0) (κs .1 .0) (κs .1 .1 .0) (qs .0) (qs .1 .0) (qs .1 .1 .0) (a .0 .ptr .0) (a .0 .ptr .1) (a .1 .0 .ptr .0) (a .1 .0 .ptr .1) (a .1 .1 .0 .ptr .0) (a .1 .1 .0 .ptr .1)
       (a .0 .name) (a .1 .0 .name) (a .1 .1 .0 .name) (a .0 .now) (a .1 .0 .now) (a .1 .1 .0 .now) C Λ fm known))
 
-avr-tick-meets : {M : Type 1} (𝓤 : URA M) (H : Heap 𝓤) (A : Atoms 𝓤) → Given 𝓤 H A → (at-mem : Memory → SProp 𝓤) (run : Routine → Fun 𝓤) (𝓣 : Tables 𝓤 H) → Triple 𝓤 (𝓣 .C #boundary·ticking·image-tick) (Called 𝓤 H A at-mem run)
+avr-tick-meets : {M : Type 1} (𝓤 : URA M) (H : Heap 𝓤) (A : Atoms 𝓤) → Given 𝓤 H A → (at-mem : Memory → SProp 𝓤) (run : Routine → Fun 𝓤) (𝓣 : Tables 𝓤 H) → Triple 𝓤 (𝓣 .C #hosting·image-tick) (Called 𝓤 H A at-mem run)
     → Meets 𝓤 H A f.signature (WpFn 𝓤 H (𝓣 .C) (𝓣 .Λ) code.function) (f.spec 𝓤 H A at-mem run)
 avr-tick-meets 𝓤 H A W at-mem run 𝓣 known =
     walk-meets 𝓤 H A f.ended stayed W (goes-ref 𝓤 H A W 3 0 tt (plain (λ _. R.the-row)), (goes-none-ref 𝓤 H A W 3 (1 ∷ []) tt (plain (λ _. T.the-row)) yes, (goes-ref 𝓤 H A W 3 2 tt (plain (λ _. O.the-row)), tt))) (f.clauses 𝓤 H A at-mem run)
@@ -183,4 +183,4 @@ avr-tick-spec 𝓤 H 𝓜 𝓖 𝓡 =
     entered 𝓤 H (tripleOf 𝓤 H (𝓖 .A) f.signature (f.spec 𝓤 H (𝓖 .A) (𝓜 .mem) (𝓡 .run)))
     (tables 𝓤 H 𝓜 𝓡 code.env .C) (tables 𝓤 H 𝓜 𝓡 code.env .Λ) #boundary·avr-tick code.function (code.unfolded 𝓤 H 𝓜 𝓡)
     (avr-tick-meets 𝓤 H (𝓖 .A) (givenOf 𝓤 H 𝓜 𝓖) (𝓜 .mem) (𝓡 .run) (tablesOf 𝓤 H 𝓜 (tables 𝓤 H 𝓜 𝓡 code.env))
-    (cited 𝓤 H (Called 𝓤 H (𝓖 .A) (𝓜 .mem) (𝓡 .run)) 𝓜 𝓡 code.env #boundary·ticking·image-tick tick-def.routine code.calls-boundary·ticking·image-tick (tick-thm.met 𝓤 H 𝓜 𝓖 𝓡)))
+    (cited 𝓤 H (Called 𝓤 H (𝓖 .A) (𝓜 .mem) (𝓡 .run)) 𝓜 𝓡 code.env #hosting·image-tick tick-def.routine code.calls-hosting·image-tick (tick-thm.met 𝓤 H 𝓜 𝓖 𝓡)))

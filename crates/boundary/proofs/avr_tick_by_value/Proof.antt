@@ -1,5 +1,5 @@
 -- `boundary::avr_tick_by_value` meets its contract: the tick of the numbers, with the settings put back. Assumes nothing.
-use Rattle.boundary.proofs.Hosted.{image-made, hosted}
+use Rattle.hosting.proofs.Hosted.{image-made, hosted}
 use borrow.Author.Needs.{needs}
 use Rattle.boundary.proofs.avr_tick_by_value.Statement.{statement}
 use Rattle.boundary.proofs.avr_tick_by_value.Tie as tie

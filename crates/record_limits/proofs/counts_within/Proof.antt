@@ -1,4 +1,5 @@
-use Rattle.record_limits.specs.Limits.{countsWithin}
+-- `record_limits::counts_within` meets its contract, by what each call ensures. Assumes nothing.
+use Rattle.record_limits.proofs.Made.{counts-made}
 use borrow.Author.Needs.{needs}
 use Rattle.record_limits.proofs.counts_within.Statement.{statement}
 use Rattle.record_limits.proofs.counts_within.Tie as tie
@@ -16,8 +17,7 @@ element-copy-out-result-2 : tie.Need-element-copy-out-result-2
 element-copy-out-result-2 c = search needs
 
 returns : tie.Need-returns
-unfolding countsWithin
-returns c = cc
+returns c = search counts-made
 
 pub counts-within-spec : {M : Type 1} → statement M
 counts-within-spec =

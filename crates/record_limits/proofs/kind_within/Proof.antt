@@ -1,3 +1,4 @@
+-- `record_limits::kind_within` meets its contract: each branch is a choice of the definition. Assumes nothing.
 use Rattle.record_limits.proofs.OfKind.{kinds}
 use borrow.Author.Needs.{needs}
 use Rattle.record_limits.proofs.kind_within.Statement.{statement}

@@ -1,4 +1,5 @@
-use Rattle.record_limits.specs.Limits.{motionWithin}
+-- `record_limits::motion_within` meets its contract, by what each call ensures. Assumes nothing.
+use Rattle.record_limits.proofs.Made.{motion-made}
 use borrow.Author.Needs.{needs}
 use Rattle.record_limits.proofs.motion_within.Statement.{statement}
 use Rattle.record_limits.proofs.motion_within.Tie as tie
@@ -22,8 +23,7 @@ latch-within-requires : tie.Need-latch-within-requires
 latch-within-requires c κs = search needs
 
 returns : tie.Need-returns
-unfolding motionWithin
-returns c = cc
+returns c = search motion-made
 
 pub motion-within-spec : {M : Type 1} → statement M
 motion-within-spec =

@@ -1,3 +1,4 @@
+-- `record_limits::organ_delays` meets its contract: the slots, one by one. Assumes nothing.
 use mathlib.Core.Path.{refl}
 use Rattle.record_limits.specs.Limits.{delaysOf}
 use borrow.Author.Needs.{needs}

@@ -1,4 +1,5 @@
-use Rattle.record_limits.specs.Limits.{pressWithin}
+-- `record_limits::press_within` meets its contract, by what each call ensures. Assumes nothing.
+use Rattle.record_limits.proofs.Made.{press-made}
 use borrow.Author.Needs.{needs}
 use Rattle.record_limits.proofs.press_within.Statement.{statement}
 use Rattle.record_limits.proofs.press_within.Tie as tie
@@ -13,8 +14,7 @@ to-lower-requires : tie.Need-to-lower-requires
 to-lower-requires c κs = search needs
 
 returns : tie.Need-returns
-unfolding pressWithin
-returns c = cc
+returns c = search press-made
 
 pub press-within-spec : {M : Type 1} → statement M
 press-within-spec =

@@ -1,3 +1,4 @@
+-- `record_limits::wait_ticks` meets its contract: each case of a wait. Assumes nothing.
 use Rattle.record_limits.proofs.Waits.{waits}
 use borrow.Author.Needs.{needs}
 use Rattle.record_limits.proofs.wait_ticks.Statement.{statement}

@@ -1,4 +1,5 @@
-use Rattle.record_limits.specs.Limits.{withinOf}
+-- `record_limits::within` meets its contract, by what each call ensures. Assumes nothing.
+use Rattle.record_limits.proofs.Made.{within-made}
 use borrow.Author.Needs.{needs}
 use Rattle.record_limits.proofs.within.Statement.{statement}
 use Rattle.record_limits.proofs.within.Tie as tie
@@ -16,8 +17,7 @@ counts-within-requires : tie.Need-counts-within-requires
 counts-within-requires c κs = search needs
 
 returns : tie.Need-returns
-unfolding withinOf
-returns c = cc
+returns c = search within-made
 
 pub within-spec : {M : Type 1} → statement M
 within-spec =

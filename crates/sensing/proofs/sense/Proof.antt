@@ -1,3 +1,4 @@
+-- `sensing::sense` meets its contract, by what each call ensures. Assumes nothing.
 use Rattle.sensing.proofs.Made.{sense-made}
 use borrow.Author.Needs.{needs}
 use Rattle.sensing.proofs.sense.Statement.{statement}
