@@ -106,7 +106,7 @@ pub fn within(s: &[u32; SLOTS], m: State) -> bool
     let remembered = memory.remembered;
     let organs = m.organs;
     let wear = m.wear;
-    let passes = sheet::passes(s);
+    let passes = sheet_judging::passes(s);
     let motion = motion_within(s, drive, wait, latch);
     let press = press_within(fault, remembered);
     let counts = counts_within(s, organs, wear);

@@ -130,7 +130,7 @@ pub fn start(list: &[u32]) -> Started
     ensures exactly { λ r. ⌜ ((r .answer ≡ Answer.Taken) ↔ Settings (now (list .entry))) ⌝ }
     ensures lasting { λ r. ⌜ (r .answer ≡ Answer.Taken → withinOf (r .state) ≡ true) ⌝ }
 {
-    let checked = sheet::check_sheet(list);
+    let checked = sheet_judging::check_sheet(list);
     let answer = checked.answer;
     let settings = checked.settings;
     start_with(answer, settings)

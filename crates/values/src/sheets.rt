@@ -28,7 +28,7 @@ fn upto(list: &[u32], n: usize) -> usize
 // The answer to the first n numbers.
 fn judged(list: &[u32], n: usize) -> Answer {
     let end = upto(list, n);
-    sheet::check_sheet(&list[..end]).answer
+    sheet_judging::check_sheet(&list[..end]).answer
 }
 
 // The answer to as many of the kept numbers as the row says.

@@ -1,9 +1,9 @@
--- `sheet::judge` meets its contract.
+-- `sheet_judging::judge` meets its contract.
 -- Assumes nothing.
 use borrow.Author.Needs.{needs}
 use Rattle.sheet.proofs.Answers.{slot-refused, ends-refused, pos-refused, count-refused, not-refused}
-use Rattle.sheet.proofs.judge.Statement.{statement}
-use Rattle.sheet.proofs.judge.Tie as tie
+use Rattle.sheet_judging.proofs.judge.Statement.{statement}
+use Rattle.sheet_judging.proofs.judge.Tie as tie
 
 first-out-of-range-requires : tie.Need-first-out-of-range-requires
 first-out-of-range-requires c κs = search needs

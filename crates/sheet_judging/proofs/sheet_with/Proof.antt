@@ -1,9 +1,9 @@
--- `sheet::sheet_with` meets its contract.
+-- `sheet_judging::sheet_with` meets its contract.
 -- Assumes nothing.
 use borrow.Author.Needs.{needs}
 use Rattle.sheet.proofs.Answers.{with-list, with-zeros}
-use Rattle.sheet.proofs.sheet_with.Statement.{statement}
-use Rattle.sheet.proofs.sheet_with.Tie as tie
+use Rattle.sheet_judging.proofs.sheet_with.Statement.{statement}
+use Rattle.sheet_judging.proofs.sheet_with.Tie as tie
 
 taken-requires : tie.Need-taken-requires
 taken-requires c κs = search needs

@@ -1,4 +1,4 @@
--- `sheet::copied` meets its contract: the places copied so far are the list's.
+-- `sheet_judging::copied` meets its contract: the places copied so far are the list's.
 -- Assumes nothing.
 use Prim.Native.Nat.{_≤_, _-_}
 use mathlib.Core.Path.{_≡_, refl}
@@ -6,9 +6,9 @@ use lib.ListN.{replicate}
 use borrow.Author.Needs.{needs}
 use Rattle.slots.specs.Slots.{slots}
 use Rattle.common.proofs.Done.{done}
 use Rattle.sheet.proofs.Copies.{copiedTo, copy-on, copy-all}
-use Rattle.sheet.proofs.copied.Statement.{statement}
-use Rattle.sheet.proofs.copied.Tie as tie
+use Rattle.sheet_judging.proofs.copied.Statement.{statement}
+use Rattle.sheet_judging.proofs.copied.Tie as tie
 
 abbrev Inv-loop : tie.InvT-loop
 Inv-loop list copy₀ i₀ copy i = (i ≤ slots) × (copy ≡ copiedTo i (replicate slots 0) list)

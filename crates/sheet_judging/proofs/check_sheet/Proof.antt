@@ -1,10 +1,10 @@
--- `sheet::check_sheet` meets its contract.
+-- `sheet_judging::check_sheet` meets its contract.
 -- Assumes nothing.
 use borrow.Author.Needs.{needs}
 use Rattle.sheet.proofs.Answers.{wrong-length, right-length}
 use Rattle.sheet.proofs.Exact.{checked}
-use Rattle.sheet.proofs.check_sheet.Statement.{statement}
-use Rattle.sheet.proofs.check_sheet.Tie as tie
+use Rattle.sheet_judging.proofs.check_sheet.Statement.{statement}
+use Rattle.sheet_judging.proofs.check_sheet.Tie as tie
 
 sheet-with-requires : tie.Need-sheet-with-requires
 sheet-with-requires c κs = search needs

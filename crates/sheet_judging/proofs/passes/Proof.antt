@@ -1,9 +1,9 @@
--- `sheet::passes` meets its contract.
+-- `sheet_judging::passes` meets its contract.
 -- Assumes nothing.
 use borrow.Author.Needs.{needs}
 use Rattle.sheet.proofs.Answers.{passes-told}
-use Rattle.sheet.proofs.passes.Statement.{statement}
-use Rattle.sheet.proofs.passes.Tie as tie
+use Rattle.sheet_judging.proofs.passes.Statement.{statement}
+use Rattle.sheet_judging.proofs.passes.Tie as tie
 
 judge-requires : tie.Need-judge-requires
 judge-requires c κs = search needs
