@@ -2,9 +2,9 @@
 -- Assumes nothing.
 use Prim.Native.Nat.{ℕ, _*_, _≤_, _<_}
 use native.Mathlib.Omega.{arith}
-use mathlib.Core.Path.{_≡_, refl, sym, ap, _∙_}
+use mathlib.Core.Path.{_≡_, refl, sym, ap, _∙_, subst}
 use mathlib.Core.Bool.{Bool, true, false, true≢false, false≢true}
-use mathlib.Core.List.{List}
+use mathlib.Core.List.{List, [], _∷_}
 use mathlib.Core.Logic.{_⊎_, inl, inr, ⊎-elim, _↔_}
 use borrow.Author.Tests.{ltb-true, ltb-false}
 use lib.Dec.{ltb}
@@ -14,6 +14,7 @@ use Rattle.common.proofs.Joined.{split}
 use Rattle.organ.specs.declared.Organ.{Organ}
 use Rattle.organ.specs.declared.OrganInput.{OrganInput}
 use Rattle.organ.specs.Organs.{overOf, underOf, markOf, organOf}
+use Rattle.organ.specs.Runs as organs
 use Rattle.organ_limits.proofs.Facts.{over-marked, over-cleared, over-kept, under-marked, under-cleared, under-kept}
 use Rattle.claim.specs.Runs.{runOf, afterOf}
 use Rattle.history.specs.Memories.{Beyond, Returned, Marks, Leaves, MarkedLast}
@@ -117,9 +118,19 @@ module _ (o : Organ) (x : OrganInput) where
   mark-step : Steps
   mark-step = ⊎-elim (λ l. ⊎-elim (under-steps l) (over-steps l) (split (x .under))) dead (split (x .live))
 
--- runs over an organ's inputs show the inputs themselves
-pub marked-last : (o : Organ) (xs : List OrganInput) → o .marked ≡ false
-    → (afterOf organOf o xs .marked ≡ true) ↔ MarkedLast (runOf organOf itself o xs)
+-- a run over an organ's inputs shows the inputs themselves, and ends where the organ's own run does
+shows-them : (o : Organ) (xs : List OrganInput) → runOf organOf itself o xs ≡ xs
+shows-them o [] = refl
+shows-them o (x ∷ xs) = ap (λ (l : List OrganInput). x ∷ l) (shows-them (organOf o x) xs)
+
+ends-there : (o : Organ) (xs : List OrganInput) → afterOf organOf o xs ≡ organs.runOf o xs
+unfolding organs.runOf
+ends-there o [] = refl
+ends-there o (x ∷ xs) = ends-there (organOf o x) xs
+
+pub marked-last : (o : Organ) (xs : List OrganInput) → o .marked ≡ false → (organs.runOf o xs .marked ≡ true) ↔ MarkedLast xs
 marked-last o xs e =
-    remembers-from-none organOf itself (λ _. Unit {0}) (λ _ _ _. tt) (λ q. q .marked ≡ true) Marks Leaves (λ q x _. mark-step q x) o xs tt
-    (λ b. true≢false (sym b ∙ e))
+    subst (λ (q : Organ). (q .marked ≡ true) ↔ MarkedLast xs) (ends-there o xs)
+    (subst (λ (l : List OrganInput). (afterOf organOf o xs .marked ≡ true) ↔ MarkedLast l) (shows-them o xs)
+    (remembers-from-none organOf itself (λ _. Unit {0}) (λ _ _ _. tt) (λ q. q .marked ≡ true) Marks Leaves (λ q x _. mark-step q x) o xs tt
+    (λ b. true≢false (sym b ∙ e))))

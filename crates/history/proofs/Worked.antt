@@ -1,4 +1,4 @@
--- Worked lists: T2 is in force, each of the three ends it, and a tick on which U is missing does not; the other memories, to the tick.
+-- Worked lists: T2 is in force, each of the three ends it, and a tick on which U is missing does not.
 -- Assumes nothing.
 use mathlib.Core.Path.{_≡_, refl}
 use mathlib.Core.Bool.{true}
