@@ -1,21 +1,20 @@
 -- The fault's age after a list: the ticks that the fault has lasted, its first included, held at T8.
 -- Assumes nothing.
-use Prim.Native.Nat.{ℕ, _+_, _≤_, _<_, min}
+use Prim.Native.Nat.{ℕ, _+_, _≤_, min}
 use native.Mathlib.Omega.{arith}
 use mathlib.Core.Path.{_≡_, refl, sym, ap, _∙_, subst}
-use mathlib.Core.Bool.{Bool, true, false, true≢false, false≢true}
+use mathlib.Core.Bool.{Bool, true, false, false≢true}
 use mathlib.Core.List.{List, [], _∷_, _++_, tail-eq-of-cons-eq, head-eq-of-cons-eq, cons≢nil}
 use mathlib.Core.Logic.{_⊎_, inl, inr, ⊎-elim}
 use borrow.Author.Tests.{ltb-true, ltb-false, leb-true, eqb-true}
-use lib.Dec.{ltb, leb, eqb}
+use lib.Dec.{ltb, leb}
 use lib.ListN.{length}
-use Rattle.common.specs.Choice.{choose}
 use Rattle.common.proofs.Cases.{yes, no, chosen}
 use Rattle.common.proofs.Joined.{split, and-left, and-right, or-is}
 use Rattle.slots.specs.Slots.{slot, t8}
 use Rattle.fault.specs.declared.Fault.{Fault}
 use Rattle.fault.specs.declared.Latch.{Latch}
-use Rattle.fault.specs.Latches.{isFault, resetOf, laterOf, ageOf, latchedOf, latchWithin}
+use Rattle.fault.specs.Latches.{isFault, resetOf, ageOf, latchedOf}
 use Rattle.drive_follow.specs.declared.Followed.{Followed}
 use Rattle.drive_follow.specs.Follow.{restsOf}
 use Rattle.input.specs.declared.Input.{Input}
@@ -29,12 +28,12 @@ use Rattle.claim.proofs.Runs as runs
 use Rattle.rules.specs.Lists.{leftBy}
 use Rattle.rules.specs.Ticks.{isOut}
 use Rattle.rules.proofs.Next.{motion}
-use Rattle.rules.proofs.Shown.{contactsAt, liveAt}
-use Rattle.rules.proofs.Steps.{tickAt, nextAt, findingAt, clearedAt, accepted-is, settings-kept, within-kept}
+use Rattle.rules.proofs.Shown.{contactsAt}
+use Rattle.rules.proofs.Steps.{nextAt, findingAt, clearedAt, settings-kept, within-kept}
 use Rattle.history.specs.Kept.{Each}
-use Rattle.history.specs.Pasts.{Past, pastOn, startsOn, pastsFrom, Out, Ran}
+use Rattle.history.specs.Pasts.{Past, pastOn, startsOn, pastsFrom}
 use Rattle.history.specs.Memories.{Arises, ArisesNone}
-use Rattle.history.proofs.Fields.{live-latch, live-next, not-out}
+use Rattle.history.proofs.Fields.{live-latch, live-next, not-out, accepts}
 use Rattle.history.proofs.Memories.{FaultIs, fault-step}
 
 abbrev ageIn : Regulator → ℕ
@@ -107,16 +106,13 @@ module _ (f : Fault) (is-fault : isFault f ≡ true) (s : List ℕ) where
   abbrev Kept : List Past → Type 0
   Kept since = Each (λ (q : Past). Accepted (q .tick) → ArisesNone q) since
 
-  accepted : (rest : Bool) (r : Regulator) (i : Input) → withinOf r ≡ true → Accepted (tickAt rest r i)
-  accepted rest r i h = accepted-is r i ∙ sym (yes _ _ _ _ h refl)
-
   -- while it lasts
   lasting : (a : At Regulator) (is : List Input) (n : ℕ) → withinOf (a .got) ≡ true → a .got .settings ≡ s → FaultIs f (a .got) → ageIn (a .got) ≡ min n (slot s t8)
       → Kept (runOf leftBy pastOn a is) → ageIn (afterOf leftBy a is .got) ≡ min (n + length is) (slot s t8)
   lasting a [] n h e l g k = g ∙ omega arith
   lasting a (i ∷ is) n h e l g k =
       let r = a .got in
-      let q = k .0 (accepted (a .rest) r i h) in
+      let q = k .0 (accepts r i (a .rest) h) in
       let o = not-out r i (a .rest) (q .notOut) in
       let m = fault-step f is-fault (a .rest) r i .1 (inr (l, k .0)) in
       let b = lasts-older (a .rest) r i h o f is-fault (q .notReset) m in

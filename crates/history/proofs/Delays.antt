@@ -2,15 +2,14 @@
 -- Assumes nothing.
 use Prim.Native.Nat.{ℕ}
 use mathlib.Core.Path.{_≡_, refl, sym, ap, _∙_, subst}
-use mathlib.Core.Bool.{Bool, true, false, not, _&&_, _||_, true≢false, false≢true}
+use mathlib.Core.Bool.{Bool, true, false, _&&_, _||_, true≢false, false≢true}
 use mathlib.Core.List.{List, _∷_, _++_}
 use mathlib.Core.Logic.{_⊎_, inl, inr, ⊎-elim, _↔_}
 use borrow.Author.Tests.{eqb-true, eq-eqb}
-use lib.Dec.{eqb}
 use Rattle.common.specs.Choice.{choose}
 use Rattle.common.proofs.Cases.{yes, no}
 use Rattle.common.proofs.Joined.{split, or-left, or-right, and-false}
-use Rattle.slots.specs.Slots.{slot, t1, t2, t3, continuous, isContinuous}
+use Rattle.slots.specs.Slots.{slot, t1, t2, t3, isContinuous}
 use Rattle.ways.specs.declared.Direction.{Direction}
 use Rattle.ways.specs.declared.Direction.the-variants.{Raise, Lower}
 use Rattle.ways.specs.declared.Way.{Way}
@@ -26,17 +25,16 @@ use Rattle.record.specs.declared.Regulator.{Regulator}
 use Rattle.record_limits.specs.Limits.{withinOf}
 use Rattle.record_starting.specs.Starting.{freshOf}
 use Rattle.claim.specs.Claim.{Accepted}
-use Rattle.claim.specs.Runs.{afterOf, At}
+use Rattle.claim.specs.Runs.{afterOf}
 use Rattle.claim.proofs.Runs as runs
 use Rattle.rules.specs.Lists.{leftBy}
 use Rattle.rules.specs.Ticks.{isOut}
-use Rattle.rules.proofs.Shown.{contactsAt, sensedAt, decidedAt, liveAt}
+use Rattle.rules.proofs.Shown.{contactsAt, decidedAt, liveAt}
 use Rattle.rules.proofs.Steps.{Linked}
 use Rattle.rules.proofs.Waits.{begun, force-is}
-use Rattle.history.specs.Kept.{SetAndKept}
-use Rattle.history.specs.Pasts.{Past, pastOn, startsOn, pastsFrom, Out}
-use Rattle.history.specs.Delays.{otherSide, Commands, Lasts, Repeats, FarAbove, DelayAfter}
-use Rattle.history.proofs.Fields.{live-repeat, out-told, not-out}
+use Rattle.history.specs.Pasts.{Past, pastOn, startsOn, pastsFrom}
+use Rattle.history.specs.Delays.{otherSide, Commands, Lasts, Repeats, DelayAfter}
+use Rattle.history.proofs.Fields.{live-repeat, not-told}
 use Rattle.history.proofs.Kept.{remembers-from-none}
 use Rattle.history.proofs.Steps.{Along, along, stepped, begins-ran, decided-begins, none-decided, none-begins}
 
@@ -47,20 +45,20 @@ is-way d Neither e = absurd (false≢true (sym (is-to-neither d) ∙ e))
 is-way d (To e) p = ap To (is-to-is d e p)
 
 -- the side is kept, or newly set
-pub record Kept (d : Direction) (inBand : Bool) (side command old : Way) : Type 0 where
+pub record Stays (d : Direction) (inBand : Bool) (side command old : Way) : Type 0 where
   pub none : command ≡ Neither
   pub same : isTo d old ≡ true
   pub notInBand : inBand ≡ false
   pub notOther : otherOf side old ≡ false
 
-still : (d : Direction) (inBand : Bool) (side old : Way) → isTo d (choose (inBand || otherOf side old) Neither old) ≡ true → Kept d inBand side Neither old
+still : (d : Direction) (inBand : Bool) (side old : Way) → isTo d (choose (inBand || otherOf side old) Neither old) ≡ true → Stays d inBand side Neither old
 still d inBand side old e =
     ⊎-elim (λ p. absurd (false≢true (sym (is-to-neither d) ∙ ap (isTo d) (yes _ _ _ _ p refl) ∙ e)))
     (λ p. record { none = refl; same = ap (isTo d) (no _ _ _ _ p refl) ∙ e; notInBand = or-left _ _ p; notOther = or-right inBand _ p })
     (split (inBand || otherOf side old))
 
 repeat-by : (d : Direction) (automatic inBand : Bool) (side command old : Way) → isTo d (repeatOf automatic inBand side command old) ≡ true
-    → (automatic ≡ true) × ((command ≡ To d) ⊎ Kept d inBand side command old)
+    → (automatic ≡ true) × ((command ≡ To d) ⊎ Stays d inBand side command old)
 unfolding repeatOf keptOf newerOf choose
 repeat-by d false inBand side command old e = absurd (false≢true (sym (is-to-neither d) ∙ e))
 repeat-by d true inBand side (To f) old e = (refl, inl (ap To (is-to-is d f e)))
@@ -70,7 +68,7 @@ repeat-set : (d : Direction) (inBand : Bool) (side command old : Way) → comman
 unfolding repeatOf newerOf choose
 repeat-set d inBand side command old e = rw e (is-to-self d)
 
-repeat-kept : (d : Direction) (inBand : Bool) (side command old : Way) → Kept d inBand side command old → isTo d (repeatOf true inBand side command old) ≡ true
+repeat-kept : (d : Direction) (inBand : Bool) (side command old : Way) → Stays d inBand side command old → isTo d (repeatOf true inBand side command old) ≡ true
 unfolding repeatOf keptOf newerOf
 repeat-kept d inBand side command old k =
     rw (k .none)
@@ -112,7 +110,7 @@ module _ (d : Direction) (rest : Bool) (r : Regulator) (i : Input) (k : Linked r
   old = r .state .memory .repeat
 
   module _ (h : withinOf r ≡ true) (o : isOut r (contactsAt i) ≡ false) where
-    lasts : contactsAt i .automatic ≡ true → Kept d (isInBand (p .level)) (sideOf (p .level)) (decidedAt r i .command) old → Lasts d p
+    lasts : contactsAt i .automatic ≡ true → Stays d (isInBand (p .level)) (sideOf (p .level)) (decidedAt r i .command) old → Lasts d p
     lasts a q =
         record {
           notInBand = λ e. true≢false (sym (ap isInBand e) ∙ q .notInBand);
@@ -121,7 +119,7 @@ module _ (d : Direction) (rest : Bool) (r : Regulator) (i : Input) (k : Linked r
               (sym (other-is d) ∙ ap (λ (l : Level). otherOf (sideOf l) (To d)) (sym e) ∙ ap (otherOf (sideOf (p .level))) (sym (is-way d old (q .same))) ∙ q .notOther);
           notManual = a;
           noCommand = none-begins rest r i k (q .none);
-          notOut = λ b. true≢false (sym (out-told r i rest b) ∙ o);
+          notOut = not-told r i rest o;
         }
 
     forth : RepeatIs d (liveAt r i .next) → Commands d p ⊎ (RepeatIs d r × Lasts d p)

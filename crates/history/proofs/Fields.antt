@@ -1,30 +1,26 @@
 -- What a tick in service leaves of each memory; out, and refused.
 -- Assumes nothing.
-use Prim.Native.Nat.{ℕ}
 use mathlib.Core.Path.{_≡_, refl, sym, ap, _∙_}
 use mathlib.Core.Bool.{Bool, true, false, true≢false}
 use mathlib.Core.Logic.{_⊎_, inl, inr, ⊎-elim}
 use borrow.Author.Tests.{eqb-true, eq-eqb}
 use lib.Dec.{eqb}
-use Rattle.common.proofs.Cases.{no}
+use Rattle.common.proofs.Cases.{yes, no}
 use Rattle.common.proofs.Joined.{or-is, or-true, split}
 use Rattle.slots.specs.Slots.{slot, inService}
 use Rattle.busbar_level.specs.Levels.{sideOf, isInBand}
-use Rattle.fault.specs.declared.Latch.{Latch}
 use Rattle.input.specs.declared.Input.{Input}
-use Rattle.keys.specs.declared.Keys.{Keys}
 use Rattle.command_automatic.specs.Automatic.{repeatOf}
-use Rattle.acting_accounting.specs.declared.Wear.{Wear}
 use Rattle.acting_commanding.specs.Commanding.{decisionOf, keptPressOf, regulatedOf}
 use Rattle.record.specs.declared.Regulator.{Regulator}
 use Rattle.record_limits.specs.Limits.{withinOf}
 use Rattle.record_starting.specs.Starting.{freshOf}
-use Rattle.claim.specs.Claim.{Tick}
+use Rattle.claim.specs.Claim.{Accepted}
 use Rattle.rules.specs.Acting.{actedOf}
 use Rattle.rules.specs.Ticks.{endOf, ranOf, isOut, outOf, refusedOf, tickOf}
 use Rattle.rules.specs.declared.Ticked.{Ticked}
 use Rattle.rules.proofs.Shown.{contactsAt, sensedAt, supervisedAt, decidedAt, liveAt}
-use Rattle.rules.proofs.Steps.{tickAt, nextAt, live-is, out-is}
+use Rattle.rules.proofs.Steps.{tickAt, nextAt, live-is, out-is, accepted-is}
 use Rattle.rules.proofs.Values.{notedIn, accountedIn}
 use Rattle.history.specs.Pasts.{Out}
 
@@ -77,3 +73,10 @@ module _ (r : Regulator) (i : Input) where
 
     pub not-out : (Out (tickAt rest r i) → ⊥) → isOut r (contactsAt i) ≡ false
     not-out n = ⊎-elim (λ o. absurd (n (told-out o))) (λ o. o) (split (isOut r (contactsAt i)))
+
+    pub not-told : isOut r (contactsAt i) ≡ false → Out (tickAt rest r i) → ⊥
+    not-told o b = true≢false (sym (out-told b) ∙ o)
+
+    -- accepted: within its limits
+    pub accepts : withinOf r ≡ true → Accepted (tickAt rest r i)
+    accepts h = accepted-is r i ∙ sym (yes _ _ _ _ h refl)

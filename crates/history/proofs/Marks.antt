@@ -1,6 +1,6 @@
 -- An organ's mark after a list of its ticks is what the list says: set by the last tick beyond the limit, unless one since cleared it.
 -- Assumes nothing.
-use Prim.Native.Nat.{ℕ, _*_, _≤_, _<_}
+use Prim.Native.Nat.{ℕ, _*_, _<_}
 use native.Mathlib.Omega.{arith}
 use mathlib.Core.Path.{_≡_, refl, sym, ap, _∙_, subst}
 use mathlib.Core.Bool.{Bool, true, false, true≢false, false≢true}
@@ -8,16 +8,15 @@ use mathlib.Core.List.{List, [], _∷_}
 use mathlib.Core.Logic.{_⊎_, inl, inr, ⊎-elim, _↔_}
 use borrow.Author.Tests.{ltb-true, ltb-false}
 use lib.Dec.{ltb}
-use Rattle.common.specs.Choice.{choose}
 use Rattle.common.proofs.Cases.{yes, no}
 use Rattle.common.proofs.Joined.{split}
 use Rattle.organ.specs.declared.Organ.{Organ}
 use Rattle.organ.specs.declared.OrganInput.{OrganInput}
-use Rattle.organ.specs.Organs.{overOf, underOf, markOf, organOf}
+use Rattle.organ.specs.Organs.{overOf, underOf, organOf}
 use Rattle.organ.specs.Runs as organs
 use Rattle.organ_limits.proofs.Facts.{over-marked, over-cleared, over-kept, under-marked, under-cleared, under-kept}
 use Rattle.claim.specs.Runs.{runOf, afterOf}
-use Rattle.history.specs.Memories.{Beyond, Returned, Marks, Leaves, MarkedLast}
+use Rattle.history.specs.Memories.{Marks, Leaves, MarkedLast}
 use Rattle.history.proofs.Kept.{remembers-from-none}
 
 -- what a tick brings, whatever the organ was: the list of the inputs themselves

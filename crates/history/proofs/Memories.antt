@@ -1,7 +1,6 @@
 -- The last direction, the fault, the press and the keys that a record holds after a list are those that the list says.
 -- Assumes nothing.
-use Prim.Native.Nat.{ℕ}
-use mathlib.Core.Path.{_≡_, refl, sym, ap, _∙_, subst}
+use mathlib.Core.Path.{_≡_, refl, sym, ap, _∙_}
 use mathlib.Core.Bool.{Bool, true, false, _||_, true≢false, false≢true}
 use mathlib.Core.List.{List, [], _∷_, _++_}
 use mathlib.Core.Logic.{_⊎_, inl, inr, ⊎-elim, _↔_}
@@ -19,9 +18,8 @@ use Rattle.fault.specs.declared.Latch.{Latch}
 use Rattle.fault.specs.Latches.{isFault, resetOf, laterOf, latchedOf}
 use Rattle.drive_follow.specs.Follow.{restsOf}
 use Rattle.input.specs.declared.Input.{Input}
-use Rattle.keys.specs.declared.Keys.{Keys}
-use Rattle.command_manual.specs.Manual.{pressedOf, rememberedOf}
-use Rattle.command_pairs.specs.Pairs.{heardOf, changedOf}
+use Rattle.command_manual.specs.Manual.{rememberedOf}
+use Rattle.command_pairs.specs.Pairs.{heardOf}
 use Rattle.acting_accounting.specs.declared.Wear.{Wear}
 use Rattle.acting_accounting.specs.Accounting.{accountedOf}
 use Rattle.acting_supervising.specs.Supervising.{clearedOf, supervisedOf}
@@ -29,18 +27,17 @@ use Rattle.acting_commanding.specs.Commanding.{dropsOf, keptPressOf}
 use Rattle.record.specs.declared.Regulator.{Regulator}
 use Rattle.record_limits.specs.Limits.{withinOf}
 use Rattle.record_starting.specs.Starting.{freshOf}
-use Rattle.showing.specs.Showing as showing
 use Rattle.claim.specs.Claim.{Accepted}
-use Rattle.claim.specs.Runs.{afterOf, At}
+use Rattle.claim.specs.Runs.{afterOf}
 use Rattle.rules.specs.Acting.{actedOf}
 use Rattle.rules.specs.Lists.{leftBy}
 use Rattle.rules.specs.Ticks.{isOut}
-use Rattle.rules.proofs.Shown.{given, contactsAt, sensedAt, supervisedAt, liveAt, live-run-away, live-not-started, live-long, live-fast, no-fault, no-field}
-use Rattle.rules.proofs.Steps.{tickAt, nextAt, Linked, live-is, accepted-is, followedAt, clearedAt, within-kept}
+use Rattle.rules.proofs.Shown.{given, contactsAt, supervisedAt, liveAt, live-run-away, live-not-started, live-long, live-fast, no-fault, no-field}
+use Rattle.rules.proofs.Steps.{tickAt, nextAt, Linked, live-is, within-kept}
 use Rattle.rules.proofs.Rows.{recordAfter}
-use Rattle.history.specs.Pasts.{Past, pastOn, startsOn, pastsFrom, Out, Ran, Faultless}
+use Rattle.history.specs.Pasts.{Past, pastOn, startsOn, pastsFrom, Ran, Faultless}
 use Rattle.history.specs.Memories.{Ends, EndsNone, LastMove, Arises, ArisesNone, Latched, Remembering, Presses, PressesNone, PressedLast}
-use Rattle.history.proofs.Fields.{live-keys, live-remembered, live-latch, live-wear, live-next, out-told}
+use Rattle.history.proofs.Fields.{live-keys, live-remembered, live-latch, live-wear, live-next, not-told, accepts}
 use Rattle.history.proofs.Kept.{remembers-from-none}
 use Rattle.history.proofs.Steps.{Along, along, stepped}
 
@@ -62,15 +59,8 @@ none-to : (d : Direction) → isTo d Neither ≡ true → ⊥
 none-to d e = false≢true (sym (is-to-neither d) ∙ e)
 
 -- a tick that ran
-module _ (rest : Bool) (r : Regulator) (i : Input) (h : withinOf r ≡ true) (o : isOut r (contactsAt i) ≡ false) where
-  accepted : Accepted (tickAt rest r i)
-  accepted = accepted-is r i ∙ sym (yes _ _ _ _ h refl)
-
-  inside : Out (tickAt rest r i) → ⊥
-  inside b = true≢false (sym (out-told r i rest b) ∙ o)
-
-  ran : Ran (tickAt rest r i)
-  ran = record { accepted = accepted; notOut = inside }
+ran : (rest : Bool) (r : Regulator) (i : Input) → withinOf r ≡ true → isOut r (contactsAt i) ≡ false → Ran (tickAt rest r i)
+ran rest r i h o = record { accepted = accepts r i rest h; notOut = not-told r i rest o }
 
 -- ---- the last direction
 
@@ -93,7 +83,7 @@ module _ (d : Direction) (rest : Bool) (r : Regulator) (i : Input) where
       (λ h o. (
         λ e.
             ⊎-elim (λ q. inl (record { ran = ran rest r i h o; ended = q }))
-            (λ q. inr (q .0, record { notOut = inside rest r i h o; ended = q .1 }))
+            (λ q. inr (q .0, record { notOut = not-told r i rest o; ended = q .1 }))
             (newer-by d (moved .ended) _ (ap (isTo d) (sym last-is) ∙ e)),
         λ q.
             ap (isTo d) last-is
@@ -157,7 +147,7 @@ module _ (f : Fault) (is-fault : isFault f ≡ true) where
         (λ h o. (
           λ e.
               ⊎-elim (λ q. inl (record { ran = ran rest r i h o; arose = q }))
-              (λ q. inr (q .0, record { notOut = inside rest r i h o; notReset = q .1; arose = q .2 }))
+              (λ q. inr (q .0, record { notOut = not-told r i rest o; notReset = q .1; arose = q .2 }))
               (later-by (r .state .latch) (contactsAt i .reset) (faulted .arose) (sym fault-is ∙ e)),
           λ q.
               fault-is
@@ -241,7 +231,7 @@ module _ (d : Direction) (rest : Bool) (r : Regulator) (i : Input) (k : Linked r
           manual = or-right (isFault fault) _ (or-left _ _ n);
           notLocal = or-right (isFault fault || contactsAt i .automatic) _ n;
           faultless = faultless (or-left _ _ (or-left _ _ n));
-          notOut = inside rest r i h o;
+          notOut = not-told r i rest o;
         }
 
     held : Remembering (pressed .tick) → (restsOf (r .state .drive) ≡ false) × (dropsOf (contactsAt i) fault ≡ false)
@@ -252,7 +242,7 @@ module _ (d : Direction) (rest : Bool) (r : Regulator) (i : Input) (k : Linked r
     forth e =
         let q = press-by d _ _ _ (pressed .press) _ (ap (isTo d) (sym remembered-is) ∙ e) in
         let m = remembering (q .unfinished) (q .notDropped) in
-        ⊎-elim (λ p. inl (record { accepted = accepted rest r i h o; remembering = m; press = p }))
+        ⊎-elim (λ p. inl (record { accepted = accepts r i rest h; remembering = m; press = p }))
         (λ p. inr (p .0, record { remembering = m; press = p .1; sameMode = p .2 })) (q .by)
 
     back : Presses d pressed ⊎ (PressIs d r × PressesNone pressed) → PressIs d (liveAt r i .next)

@@ -5,8 +5,6 @@ use native.Mathlib.Omega.{arith}
 use mathlib.Core.Path.{_≡_, refl, sym, ap, _∙_, subst}
 use mathlib.Core.Bool.{Bool, true, false, true≢false}
 use mathlib.Core.Logic.{_⊎_, inl, inr, ⊎-elim, _↔_}
-use Rattle.common.specs.Choice.{choose}
-use Rattle.common.proofs.Cases.{yes}
 use Rattle.common.proofs.Joined.{split, and-left}
 use Rattle.slots.specs.Slots.{slot, t7}
 use Rattle.ways.specs.declared.Direction.{Direction}
@@ -26,13 +24,13 @@ use Rattle.record_starting.specs.Starting.{freshOf}
 use Rattle.claim.specs.Claim.{Tick, Accepted, Begins, Command, commandField}
 use Rattle.claim.specs.Runs.{At}
 use Rattle.rules.specs.Lists.{leftBy}
-use Rattle.rules.specs.Ticks.{isOut, outOf, tickOf}
+use Rattle.rules.specs.Ticks.{isOut, outOf}
 use Rattle.rules.proofs.Shown.{given, contactsAt, supervisedAt, situationAt, decidedAt, liveAt, onTo, live-on}
-use Rattle.rules.proofs.Steps.{tickAt, nextAt, restAt, Linked, live-is, out-is, accepted-is, accepted-within}
+use Rattle.rules.proofs.Steps.{tickAt, nextAt, Linked, live-is, out-is, accepted-within}
 use Rattle.rules.proofs.Rows.{linked-step}
 use Rattle.rules.proofs.Waits.{begun}
 use Rattle.history.specs.Pasts.{Out, Ran}
-use Rattle.history.proofs.Fields.{refused-next, out-next, live-next, told-out, out-told}
+use Rattle.history.proofs.Fields.{refused-next, out-next, live-next, told-out, out-told, accepts}
 
 -- what holds all along a list: rest as the outputs tell it is rest as the record has it
 abbrev pub Along : At Regulator → Type 0
@@ -51,9 +49,6 @@ module _ (rest : Bool) (r : Regulator) (i : Input) (H : Regulator → Type 0) (S
   abbrev Stepped : Type 0
   Stepped = H (nextAt r i) ↔ (S ⊎ (H r × (Accepted t → K)))
 
-  accepted : withinOf r ≡ true → Accepted t
-  accepted h = accepted-is r i ∙ sym (yes _ _ _ _ h refl)
-
   refused : withinOf r ≡ false → Stepped
   refused h =
       let never : Accepted t → ⊥ = λ a. true≢false (sym (accepted-within r i a) ∙ h) in (
@@ -65,14 +60,14 @@ module _ (rest : Bool) (r : Regulator) (i : Input) (H : Regulator → Type 0) (S
   out h o =
       let is = told-out r i rest o in (
         λ p. absurd (fresh (subst H (out-next r i h o) p)),
-        λ q. ⊎-elim (λ s. absurd (ran s .notOut is)) (λ k. absurd (inside (k .1 (accepted h)) is)) q,
+        λ q. ⊎-elim (λ s. absurd (ran s .notOut is)) (λ k. absurd (inside (k .1 (accepts r i rest h)) is)) q,
       )
 
   inService : withinOf r ≡ true → isOut r (contactsAt i) ≡ false → Stepped
   inService h o =
       let g = live h o in (
         λ p. ⊎-elim (λ s. inl s) (λ k. inr (k .0, λ _. k .1)) (g .0 (subst H (live-next r i h o) p)),
-        λ q. subst H (sym (live-next r i h o)) (g .1 (⊎-elim (λ s. inl s) (λ k. inr (k .0, k .1 (accepted h))) q)),
+        λ q. subst H (sym (live-next r i h o)) (g .1 (⊎-elim (λ s. inl s) (λ k. inr (k .0, k .1 (accepts r i rest h))) q)),
       )
 
   pub stepped : H (nextAt r i) ↔ (S ⊎ (H r × (Accepted (tickAt rest r i) → K)))
@@ -106,7 +101,7 @@ module _ (rest : Bool) (r : Regulator) (i : Input) (k : Linked rest r) where
     unfolding situationOf askOf onOf
     decided-begins d c =
         record {
-          accepted = accepted-is r i ∙ sym (yes _ _ _ _ h refl);
+          accepted = accepts r i rest h;
           fromRest = k h ∙ and-left (restsOf (r .state .drive)) _ (decided-sound (r .settings) (situationAt r i) .begins d c .resting);
           on =
               ap (given (commandField d)) (live-is r i h o) ∙ live-on r i d

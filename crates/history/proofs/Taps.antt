@@ -1,39 +1,36 @@
 -- The counted tap after a list of ticks, none of them out: the tap before, one more for each move that steps it up, one less for each
 -- that steps it down.
 -- Assumes nothing.
-use Prim.Native.Nat.{ℕ, _+_, _-_, _≤_, _<_}
+use Prim.Native.Nat.{ℕ, _+_, _-_, _<_}
 use native.Mathlib.Omega.{arith}
 use mathlib.Core.Path.{_≡_, refl, sym, ap, _∙_, subst}
 use mathlib.Core.Bool.{Bool, true, false, not, _&&_, _||_}
 use mathlib.Core.List.{List, [], _∷_}
-use mathlib.Core.Logic.{_⊎_, inl, inr, ⊎-elim}
 use borrow.Author.Tests.{ltb-true}
 use lib.Dec.{ltb, eqb}
 use Rattle.common.specs.Choice.{choose}
 use Rattle.common.proofs.Cases.{yes, no}
-use Rattle.common.proofs.Joined.{split, or-is, or-left, or-right}
 use Rattle.slots.specs.Slots.{slot, tapSource, nL, nR}
 use Rattle.ways.specs.declared.Direction.{Direction}
 use Rattle.ways.specs.declared.Direction.the-variants.{Raise, Lower}
 use Rattle.ways.specs.declared.Way.{Way}
 use Rattle.ways.specs.declared.Way.the-variants.{Neither, To}
-use Rattle.ways.specs.Ways.{raises, lowers}
 use Rattle.tap_counted.specs.declared.Counted.{Counted}
-use Rattle.tap_counted.specs.Counted.{tapOf, upOf, downOf, isUp, stepOf, movedOf, countedOf}
+use Rattle.tap_counted.specs.Counted.{tapOf, upOf, downOf, stepOf, movedOf, countedOf}
 use Rattle.input.specs.declared.Input.{Input}
 use Rattle.acting_accounting.specs.declared.Wear.{Wear}
 use Rattle.acting_accounting.specs.Accounting.{accountedOf}
 use Rattle.record.specs.declared.Regulator.{Regulator}
 use Rattle.record_limits.specs.Limits.{withinOf}
-use Rattle.claim.specs.Runs.{runOf, afterOf, At}
+use Rattle.claim.specs.Runs.{runOf, afterOf}
 use Rattle.rules.specs.Acting.{actedOf}
 use Rattle.rules.specs.Lists.{leftBy}
 use Rattle.rules.specs.Ticks.{isOut}
-use Rattle.rules.proofs.Shown.{contactsAt, liveAt}
-use Rattle.rules.proofs.Steps.{tickAt, nextAt, settings-kept, within-kept}
+use Rattle.rules.proofs.Shown.{contactsAt}
+use Rattle.rules.proofs.Steps.{nextAt, settings-kept, within-kept}
 use Rattle.history.specs.Kept.{Each}
 use Rattle.history.specs.Pasts.{Past, pastOn, startsOn, pastsFrom, Out}
-use Rattle.history.specs.Memories.{upward, downward, countOf, upsOf, downsOf}
+use Rattle.history.specs.Memories.{upward, downward, upsOf, downsOf}
 use Rattle.history.proofs.Fields.{live-wear, live-next, not-out}
 
 -- what a step adds and takes

@@ -7,8 +7,7 @@ use Prim.Native.Nat.{ℕ}
 use lib.Ieee.{ofBits}
 use lib.ListN.{replicate}
 use Rattle.ways.specs.declared.Direction.the-variants.{Raise}
-use Rattle.ways.specs.declared.Way.{Way}
-use Rattle.ways.specs.declared.Way.the-variants.{Neither, To}
+use Rattle.ways.specs.declared.Way.the-variants.{To}
 use Rattle.input.specs.declared.Input.{Input}
 use Rattle.claim.specs.Claim.{output}
 use Rattle.claim.specs.Scenes.{variedSheet, brought}

@@ -82,15 +82,15 @@ abbrev pub downward : List ℕ → Way → Bool
 downward s w = choose (eqb (slot s tapSource) 4) (raises w) (lowers w)
 
 -- the ticks on which a move ended that steps the tap up, or down, and not past an end
-abbrev pub countOf : (Past → Bool) → List Past → ℕ
-countOf f [] = 0
-countOf f (p ∷ ps) = choose (f p) 1 0 + countOf f ps
+abbrev pub tickCount : (Past → Bool) → List Past → ℕ
+tickCount f [] = 0
+tickCount f (p ∷ ps) = choose (f p) 1 0 + tickCount f ps
 
 abbrev pub upsOf : List ℕ → List Past → ℕ
-upsOf s past = countOf (λ p. upward s (p .ended) && not (p .pastEnd)) past
+upsOf s past = tickCount (λ p. upward s (p .ended) && not (p .pastEnd)) past
 
 abbrev pub downsOf : List ℕ → List Past → ℕ
-downsOf s past = countOf (λ p. downward s (p .ended) && not (p .pastEnd)) past
+downsOf s past = tickCount (λ p. downward s (p .ended) && not (p .pastEnd)) past
 
 -- ---- an organ's mark, by what its ticks bring
 

@@ -1,5 +1,4 @@
 -- A tick of a list with what the rules find on it: what the memories of a record are said by. Definitions only.
-use Prim.Native.Nat.{ℕ}
 use mathlib.Core.Path.{_≡_}
 use mathlib.Core.Bool.{Bool, true}
 use mathlib.Core.List.{List}

@@ -24,7 +24,6 @@ use Rattle.phasor.specs.Pairs.{partInRange, signedThousandths, partOf, freshBy,
 use Rattle.input.specs.Brought.{currentOf}
 use Rattle.sheet_ranges.specs.Table.{moduleFactor}
 use Rattle.busbar_current.specs.Current.{numberOf, goodOf, isMissing}
-use Rattle.busbar_current.specs.declared.Value.{Value}
 use Rattle.busbar_current.proofs.Facts.{no-cut-off}
 use Rattle.line_current.specs.Pair.{byParts}
 use Rattle.line.specs.Along.{remainsOf, magnitudeOf}

@@ -1,7 +1,7 @@
 -- On a taken sheet U is missing exactly where a reading or a part that it needs is missing or Held: no bound in the definitions takes it
 -- away.
 -- Assumes nothing.
-use mathlib.Core.Path.{_≡_, refl, sym, ap, _∙_}
+use mathlib.Core.Path.{_≡_, refl, ap, _∙_}
 use mathlib.Core.Bool.{Bool, true, false, _&&_, _||_}
 use mathlib.Core.List.{List}
 use Prim.Native.Nat.{ℕ, _≤_}
@@ -31,7 +31,6 @@ use Rattle.busbar_compensation.specs.Voltage.{voltageDrop, voltageOf}
 use Rattle.busbar_compensation.proofs.Facts.{taken-drop}
 use Rattle.busbar_level.specs.Levels as levels
 use Rattle.busbar_level.specs.declared.Level.{Level}
-use Rattle.busbar_level.specs.declared.Level.the-variants.{Low, High, InBand}
 use Rattle.busbar_deviation.specs.Deviation.{lowOf, highOf, bandOf, levelOf}
 use Rattle.line_current.specs.Pair as pair
 use Rattle.line_current.specs.Pair.{byParts}
