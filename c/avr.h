@@ -29,6 +29,7 @@ extern "C" {
 #define AVR_ORGANS 7    /* measuring organs */
 #define AVR_READINGS 12 /* readings of a tick, each part of a pair being one */
 #define AVR_FIELDS 28   /* outputs of a tick */
+#define AVR_LONGEST_HORIZON 36000 /* ticks of a look ahead, 180 s */
 
 /*
  * The slots of a setting sheet: the manual's name, the meaning and unit; the
@@ -173,14 +174,15 @@ enum avr_out {
     AVR_OUT_AUTOMATIC = 27                  /* the mode: 1 automatic, 0 manual */
 };
 
-/* What a sheet or a tick is answered. */
+/* What a sheet, a tick or a look ahead is answered. */
 enum avr_answer {
     AVR_ACCEPTED = 0,          /* a sheet that is taken, a tick that ran */
     AVR_REFUSED_LENGTH = 1,    /* a list that has not AVR_SLOTS numbers */
     AVR_REFUSED_RANGE = 2,     /* a slot out of its range */
     AVR_REFUSED_TAP_ORDER = 3, /* N_R not above N_L, or N_pos outside them */
-    AVR_REFUSED_IMAGE = 4,     /* a tick of an image that is no record's, or of a record outside its limits */
-    AVR_REFUSED_COUNTED = 5    /* continuous regulation, and a counted tap: no contact tells of a move */
+    AVR_REFUSED_IMAGE = 4,     /* a tick of, or a look ahead from, an image that is no record's, or of a record outside its limits */
+    AVR_REFUSED_COUNTED = 5,   /* continuous regulation, and a counted tap: no contact tells of a move */
+    AVR_REFUSED_HORIZON = 6    /* a look ahead of no tick, or of more than AVR_LONGEST_HORIZON */
 };
 
 /* The quality of a reading. */
@@ -326,6 +328,15 @@ typedef struct {
     avr_image next;
 } avr_ticked;
 
+/* What a look ahead gives. */
+typedef struct {
+    uint32_t refusal;    /* AVR_ACCEPTED, AVR_REFUSED_IMAGE or AVR_REFUSED_HORIZON */
+    uint32_t tick;       /* on which the first command begins, counted from 1; 0 where none begins within the horizon */
+    uint32_t way;        /* enum avr_way: of that command */
+    avr_outputs outputs; /* of that tick; of the last one of the horizon where no command begins */
+    avr_image next;      /* after the same tick */
+} avr_outlook;
+
 /*
  * Starts a regulator from a list of `length` numbers, which is left as it was.
  * `list` is not null, also where `length` is 0.
@@ -350,6 +361,22 @@ uint32_t avr_tick(avr_image *image, const avr_brought *brought, avr_outputs *out
 
 /* The same tick with everything by value; on refusal `next` is `image`, and the outputs are all 0. */
 avr_ticked avr_tick_by_value(avr_image image, avr_brought brought);
+
+/*
+ * When would it move? If `brought` came again on each tick from `image` on, up
+ * to `horizon` of them: on which tick the first command would begin, raise or
+ * lower, automatic or manual, and what stands after that tick. A command that
+ * is on already, and a move that the drive makes on its own, do not begin. The
+ * answer is that of so many calls of avr_tick_by_value; the host's own image
+ * stays as it is.
+ *
+ * AVR_ACCEPTED: a tick from 1 to `horizon` and its way; or tick 0 and
+ * AVR_WAY_NEITHER, with what stands after the last tick of the horizon.
+ * AVR_REFUSED_IMAGE, as a tick's; else AVR_REFUSED_HORIZON, where `horizon` is
+ * 0 or above AVR_LONGEST_HORIZON: tick 0, AVR_WAY_NEITHER, outputs all 0, and
+ * `next` is `image`.
+ */
+avr_outlook avr_ahead(avr_image image, avr_brought brought, uint32_t horizon);
 
 #ifdef __cplusplus
 }
@@ -402,6 +429,11 @@ AVR_ENDS(avr_started, image);
 AVR_FOLLOWS(avr_ticked, outputs, refusal);
 AVR_FOLLOWS(avr_ticked, next, outputs);
 AVR_ENDS(avr_ticked, next);
+AVR_FOLLOWS(avr_outlook, tick, refusal);
+AVR_FOLLOWS(avr_outlook, way, tick);
+AVR_FOLLOWS(avr_outlook, outputs, way);
+AVR_FOLLOWS(avr_outlook, next, outputs);
+AVR_ENDS(avr_outlook, next);
 
 #undef AVR_ENDS
 #undef AVR_FOLLOWS

@@ -1,4 +1,4 @@
-//! The proved library for a host in Rust: what `c/avr.h` declares for C, and three safe functions over it.
+//! The proved library for a host in Rust: what `c/avr.h` declares for C, and four safe functions over it.
 //!
 //! Nothing checks these declarations while they are compiled. The tests of `rust/comparison` hold them to the sources in `crates/`
 //! and to what the library reads and writes.
@@ -16,6 +16,9 @@ pub const READINGS: usize = 12;
 
 /// Outputs of a tick.
 pub const FIELDS: usize = 28;
+
+/// Ticks of the longest look ahead.
+pub const LONGEST_HORIZON: u32 = 36_000;
 
 /// Numbers of an image.
 pub const WORDS: usize = size_of::<Image>() / size_of::<u32>();
@@ -122,13 +125,26 @@ pub struct Ticked {
     pub next: Image,
 }
 
+/// What a look ahead gives: 0, 4 or 6; the tick, counted from 1, on which the first command begins, or 0, and its way; the outputs
+/// and the image after that tick, or after the last one.
+#[repr(C)]
+#[derive(Clone, Copy, Debug, PartialEq, Eq)]
+pub struct Outlook {
+    pub refusal: u32,
+    pub tick: u32,
+    pub way: u32,
+    pub outputs: Outputs,
+    pub next: Image,
+}
+
 mod boundary {
-    use super::{Brought, Image, Outputs, Started, Ticked};
+    use super::{Brought, Image, Outlook, Outputs, Started, Ticked};
 
     extern "C" {
         pub fn avr_start(list: *const u32, length: usize) -> Started;
         pub fn avr_tick(image: *mut Image, brought: *const Brought, outputs: *mut Outputs) -> u32;
         pub fn avr_tick_by_value(image: Image, brought: Brought) -> Ticked;
+        pub fn avr_ahead(image: Image, brought: Brought, horizon: u32) -> Outlook;
     }
 }
 
@@ -148,6 +164,12 @@ pub fn tick(image: &mut Image, brought: &Brought, outputs: &mut Outputs) -> u32 
 pub fn tick_by_value(image: Image, brought: Brought) -> Ticked {
     // SAFETY: plain values.
     unsafe { boundary::avr_tick_by_value(image, brought) }
+}
+
+/// On which of up to `horizon` ticks, each of which brings the same, the first command would begin.
+pub fn ahead(image: Image, brought: Brought, horizon: u32) -> Outlook {
+    // SAFETY: plain values.
+    unsafe { boundary::avr_ahead(image, brought, horizon) }
 }
 
 impl Image {
