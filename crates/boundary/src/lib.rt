@@ -10,9 +10,12 @@ ghost use Rattle.record_starting.specs.Starting.{startOf};
 ghost use Rattle.claim.specs.Claim.{Kept};
 ghost use Rattle.hosting.specs.Hosting.{refusedImage, isAccepted, imageTickOf, foundOf};
 ghost use Rattle.hosting.specs.Lists.{imageListFrom, imageOpening};
+ghost use Rattle.ahead.specs.Looking.{isHorizon};
+ghost use Rattle.hosting_ahead.specs.Outlooks.{givenBack, imageAheadOf, imageAfter, imageRan};
 ghost use Rattle.boundary.specs.Starting.{startedImage};
 use hosting::ImageTicked;
 use hosting::Outputs;
+use hosting_ahead::ImageOutlook;
 use image::Image;
 use image_input::Brought;
 
@@ -85,4 +88,17 @@ pub extern "C" fn avr_tick_by_value(image: Image, brought: Brought) -> ImageTick
     let before = image_reading::numbers_in(image);
     let x = hosting::advance(&settings, before, brought);
     hosting::with_settings(settings, x)
+}
+
+// On which of up to `horizon` ticks, each of which brings the same, the first command would begin, and what stands there. The clauses are
+// `image_ahead`'s.
+#[no_mangle]
+pub extern "C" fn avr_ahead(image: Image, brought: Brought, horizon: u32) -> ImageOutlook
+    ensures each { λ o. ⌜ o ≡ imageAheadOf image brought horizon ⌝ }
+    ensures refusal { λ o. ⌜ o .refusal ≡ choose (isAccepted image) (choose (isHorizon horizon) 0 6) 4 ⌝ }
+    ensures left { λ o. ⌜ ((o .refusal ≡ 0 → ⊥) → o ≡ givenBack (o .refusal) image) ⌝ }
+    ensures lasting { λ o. ⌜ isAccepted (o .next) ≡ isAccepted image ⌝ }
+    ensures calls { λ o. ⌜ (o .refusal ≡ 0 → o .next ≡ imageAfter image brought (imageRan horizon o)) ⌝ }
+{
+    hosting_ahead::image_ahead(image, brought, horizon)
 }
