@@ -143,12 +143,12 @@ pub ends : {i : Input} {whole : Outlook} {horizon : ℕ} {s : List ℕ} {m : Sta
 ends {i} {whole} {horizon} {s} {m} {rest} {outputs} {ticks} k h = going-end i whole horizon s m rest outputs ticks k h
 
 -- a horizon, by the tests as the function has them
-beyond : (k : ℕ) → (ltb k 1 || ltb longestHorizon k) ≡ true → isHorizon k ≡ false
+pub beyond : (k : ℕ) → (ltb k 1 || ltb longestHorizon k) ≡ true → isHorizon k ≡ false
 beyond k e =
     ⊎-elim (λ p. let z = ltb-true k 1 p in rw (lt-leb 1 k (omega arith)))
     (λ p. let z = ltb-true longestHorizon k p in rw (lt-leb k longestHorizon (omega arith)) (and-false (leb 1 k))) (or-is _ _ e)
 
-inside : (k : ℕ) → (ltb k 1 || ltb longestHorizon k) ≡ false → isHorizon k ≡ true
+pub inside : (k : ℕ) → (ltb k 1 || ltb longestHorizon k) ≡ false → isHorizon k ≡ true
 inside k e =
     let p = ltb-false k 1 (or-left _ _ e) in
     let q = ltb-false longestHorizon k (or-right (ltb k 1) _ e) in

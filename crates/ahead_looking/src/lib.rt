@@ -19,15 +19,15 @@ use ways::Direction;
 use ways::Way;
 
 // One tick of the look: the command that it begins, whether the drive rests after it, its outputs and its state.
-struct Glance {
-    way: Way,
-    rests: bool,
-    outputs: [u32; FIELDS],
-    state: State,
+pub struct Glance {
+    pub way: Way,
+    pub rests: bool,
+    pub outputs: [u32; FIELDS],
+    pub state: State,
 }
 
 // The command that an accepted tick begins, by whether the drive was at rest as it started.
-fn begun(rest: bool, outputs: &[u32; FIELDS]) -> Way
+pub fn begun(rest: bool, outputs: &[u32; FIELDS]) -> Way
     ensures { λ w. ⌜ w ≡ wayBegun rest (now (outputs .entry)) ⌝ }
 {
     if rest {

@@ -45,7 +45,7 @@ module _ (r : Regulator) where
   unfolding imageTickOf advancedOf choose
   ticked-of b = rw (back r)
 
-  rest-of : (d : Drive) → r .state .drive ≡ d → imageRests (imageOf r) ≡ restsOf (r .state .drive)
+  pub rest-of : (d : Drive) → r .state .drive ≡ d → imageRests (imageOf r) ≡ restsOf (r .state .drive)
   unfolding imageOf numbersOf driveImage
   rest-of Resting e = rw e
   rest-of (Asked d n true) e = rw e

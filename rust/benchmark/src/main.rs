@@ -1,12 +1,13 @@
-//! Ticks per second on one recording: the proved library through its C boundary, lent and by value, and the second program.
-//! `benchmark SEED RUNS [lent|value|second]`: all three, or one alone (for a count of instructions), on the recording of a seed.
+//! Ticks per second on one recording: the proved library through its C boundary, lent and by value, and the second program; and a look
+//! ahead over the longest horizon.
+//! `benchmark SEED RUNS [lent|value|second|ahead]`: all four, or one alone (for a count of instructions), on the recording of a seed.
 
 use std::time::Instant;
 
 use comparison::convert::{brought, image_of};
-use library::{tick, tick_by_value, Brought, Image, Outputs, FIELDS};
+use library::{ahead, tick, tick_by_value, Brought, Image, Outputs, FIELDS, LONGEST_HORIZON};
 use reference::dice::Dice;
-use reference::input::Input;
+use reference::input::{bit, Input};
 use reference::record::Record;
 use reference::recording::{tick_from_bytes, TICK_BYTES};
 use reference::sheet::{self, slot, Settings};
@@ -68,6 +69,18 @@ fn second(start: &Record, ticks: &[Input], runs: u32) -> u64 {
     sum
 }
 
+/// A look ahead that runs to its horizon: an external block keeps every command from coming.
+fn to_the_horizon(start: &Image, first: &Brought, runs: u32) -> u64 {
+    let blocked = Brought { contacts: first.contacts | 1 << bit::EXTERNAL_BLOCK, ..*first };
+    let mut sum = 0;
+    for _ in 0..runs {
+        let outlook = ahead(*start, blocked, LONGEST_HORIZON);
+        assert_eq!((outlook.refusal, outlook.tick), (0, 0), "no command, within the whole horizon");
+        sum += u64::from(outlook.outputs.fields[14]);
+    }
+    sum
+}
+
 /// What the recording is of.
 fn told(settings: &Settings) -> String {
     let kind = if sheet::is_continuous(settings) { "without" } else { "with" };
@@ -99,6 +112,7 @@ fn main() {
         Some("lent") => println!("{}", lent(&image, &ticks, runs)),
         Some("value") => println!("{}", by_value(&image, &ticks, runs)),
         Some("second") => println!("{}", second(&record, &inputs, runs)),
+        Some("ahead") => println!("{}", to_the_horizon(&image, &ticks[0], runs)),
         _ => {
             let (a, x) = timed(runs, |n| lent(&image, &ticks, n));
             let (b, y) = timed(runs, |n| by_value(&image, &ticks, n));
@@ -109,6 +123,10 @@ fn main() {
                 println!("{name:18} {ns:7.1} ns a tick, {:9.0} ticks a second", 1e9 / ns);
             }
             println!("ratio, lent to second program: {:.2}; by value: {:.2}", a / c, b / c);
+            let from = Instant::now();
+            to_the_horizon(&image, &ticks[0], runs);
+            let ms = from.elapsed().as_secs_f64() * 1e3 / f64::from(runs);
+            println!("a look ahead over {LONGEST_HORIZON} ticks: {ms:.1} ms, {:.1} ns a tick", ms * 1e6 / f64::from(LONGEST_HORIZON));
         }
     }
 }
