@@ -1,4 +1,7 @@
-/* A small host: starts a regulator, lets the voltage be low until raise comes on, and follows the move to its end. */
+/*
+ * A small host: starts a regulator, lets the voltage be low until raise comes on, follows the move to its end, and looks ahead to
+ * the next raise.
+ */
 #include <stdio.h>
 #include <string.h>
 
@@ -94,6 +97,10 @@ int main(void) {
     answer = avr_tick(&image, &in, &outputs);
     show(++tick, answer, &image, &outputs);
     if (image.counted_tap != 11 || image.operations != 1) return 1;
+
+    avr_outlook next = avr_ahead(image, in, AVR_LONGEST_HORIZON); /* if the voltage stays low: a repeated raise, after T2 */
+    printf("ahead: answer %u, tick %u, way %u, drive kind %u\n", next.refusal, next.tick, next.way, next.next.drive.kind);
+    if (next.tick != 20 || next.way != AVR_WAY_RAISE) return 1;
 
     return refusals(image, &in, list);
 }

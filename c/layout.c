@@ -7,7 +7,7 @@
 
 #include "avr.h"
 
-enum { CANARY = 0xA5, ROOM = 64, TICKS = 3 };
+enum { CANARY = 0xA5, ROOM = 64, TICKS = 3, DELAY = 25 };
 
 /* What is lent, with room on both sides. */
 typedef struct {
@@ -17,6 +17,13 @@ typedef struct {
     avr_outputs outputs;
     unsigned char after[ROOM];
 } lent;
+
+/* An answer, with room on both sides. */
+typedef struct {
+    unsigned char before[ROOM];
+    avr_outlook outlook;
+    unsigned char after[ROOM];
+} answered;
 
 static int wrong = 0;
 
@@ -35,9 +42,16 @@ static void hold_canaries(const char *what, const lent *l) {
     }
 }
 
+static int untouched(const unsigned char *room) {
+    for (int i = 0; i < ROOM; i++) {
+        if (room[i] != CANARY) return 0;
+    }
+    return 1;
+}
+
 /*
- * The lowest numbers, but for what the ticks below need: U2's organ with a delay, a tap that the sensor shows, and the coupler's
- * current along a line that is all but a reactance.
+ * The lowest numbers, but for what the ticks below need: U2's organ with a delay, a tap that the sensor shows, the coupler's
+ * current along a line that is all but a reactance, and a delay of its own for the look ahead.
  */
 static void sheet(uint32_t *s) {
     memset(s, 0, AVR_SLOTS * sizeof *s);
@@ -52,6 +66,7 @@ static void sheet(uint32_t *s) {
     for (int i = AVR_SLOT_I_SET1; i <= AVR_SLOT_I_SET3; i++) s[i] = 100;
     for (int i = AVR_SLOT_U_SET1; i <= AVR_SLOT_U_SET5; i++) s[i] = 5000;
     for (int i = AVR_SLOT_T1; i <= AVR_SLOT_T5; i++) s[i] = 20;
+    s[AVR_SLOT_T3] = DELAY;
     s[AVR_SLOT_T8] = 20;
     s[AVR_SLOT_T15] = 30;
     s[AVR_SLOT_N_POS] = 11;
@@ -142,6 +157,51 @@ static void hold_ticks(lent *l, const uint32_t *list) {
     hold("the image's difference by value", memcmp(&by_value.next, &l->image, sizeof l->image) != 0, 0);
 }
 
+/* A look ahead from that image, its answer between canaries. */
+static avr_outlook look(const char *what, avr_image image, uint32_t horizon) {
+    answered a;
+    memset(&a, CANARY, sizeof a);
+    a.outlook = avr_ahead(image, brought(), horizon);
+    hold(what, untouched(a.before) && untouched(a.after), 1);
+    return a.outlook;
+}
+
+/* After those ticks: a lower on the tick on which the delay is over, and too short a look for it. */
+static void hold_ahead(const avr_image *image, const uint32_t *list) {
+    avr_outlook o = look("whether canaries stand on both sides of an outlook", *image, AVR_LONGEST_HORIZON);
+    hold("the answer to a look", o.refusal, AVR_ACCEPTED);
+    hold("the tick of a look", o.tick, DELAY - TICKS);
+    hold("the way of a look", o.way, AVR_WAY_LOWER);
+    hold("the raise of a look", o.outputs.fields[AVR_OUT_RAISE], 0);
+    hold("the lower of a look", o.outputs.fields[AVR_OUT_LOWER], 1);
+    hold("the tap of a look", o.outputs.fields[AVR_OUT_TAP], 13);
+    hold("the last output of a look", o.outputs.fields[AVR_FIELDS - 1], 1);
+    hold("the settings' difference after a look", memcmp(o.next.settings, list, sizeof o.next.settings) != 0, 0);
+    hold("the last count after a look", o.next.organ_counts[AVR_ORGANS - 1], DELAY);
+    hold("the drive after a look", o.next.drive.kind, AVR_DRIVE_ASKED);
+    hold("its direction", o.next.drive.direction, AVR_DIRECTION_LOWER);
+    hold("the wait after a look", o.next.wait.ticks, 0);
+    hold("the repeat after a look", o.next.repeat, AVR_WAY_LOWER);
+    hold("the operations after a look", o.next.operations, list[AVR_SLOT_N_START]);
+    hold("the mode after a look", o.next.keys.remote, 1);
+    o = look("whether canaries stand on both sides of a short outlook", *image, 5);
+    hold("the answer to a short look", o.refusal, AVR_ACCEPTED);
+    hold("the tick of a short look", o.tick, 0);
+    hold("the way of a short look", o.way, AVR_WAY_NEITHER);
+    hold("the high of a short look", o.outputs.fields[AVR_OUT_HIGH], 1);
+    hold("the wait after a short look", o.next.wait.ticks, TICKS + 5);
+}
+
+/* A refused look has 0 in each place before the image, which is the one handed in. */
+static void hold_refused_look(avr_image image, uint32_t horizon, uint32_t number) {
+    avr_outlook o = look("whether canaries stand on both sides of a refused outlook", image, horizon);
+    hold("the answer to a refused look", o.refusal, number);
+    hold("the tick of a refused look", o.tick, 0);
+    hold("the way of a refused look", o.way, AVR_WAY_NEITHER);
+    for (int i = 0; i < AVR_FIELDS; i++) hold("an output of a refused look", o.outputs.fields[i], 0);
+    hold("the image's difference after a refused look", memcmp(&o.next, &image, sizeof image) != 0, 0);
+}
+
 /* A refused tick writes 0 to each output, and nothing else. */
 static void hold_refused(lent *l) {
     avr_brought in = brought();
@@ -163,6 +223,10 @@ int main(void) {
     memset(&l, CANARY, sizeof l);
     l.image = s.image;
     hold_ticks(&l, list);
+    hold_ahead(&l.image, list);
+    hold_refused_look(l.image, 0, AVR_REFUSED_HORIZON);
+    hold_refused_look(l.image, AVR_LONGEST_HORIZON + 1, AVR_REFUSED_HORIZON);
     hold_refused(&l);
+    hold_refused_look(l.image, 0, AVR_REFUSED_IMAGE); /* tested before the horizon */
     return wrong;
 }

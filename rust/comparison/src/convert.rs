@@ -1,6 +1,7 @@
 //! Between the second program's types and the boundary's.
 
-use library::{Brought, DriveImage, Image, KeyImage, Sample, WaitImage, GOOD, HELD, INVALID, ORGANS};
+use library::{Brought, DriveImage, Image, KeyImage, Outlook, Outputs, Sample, WaitImage, GOOD, HELD, INVALID, ORGANS};
+use reference::ahead;
 use reference::dice::Dice;
 use reference::input::Input;
 use reference::reading::Reading;
@@ -158,4 +159,15 @@ pub fn brought(input: &Input, dice: &mut Dice) -> Brought {
         }
     };
     Brought { readings: input.readings().map(sample), contacts: input.contacts.0, bcd: input.bcd, sensor: input.sensor }
+}
+
+/// The answer to a look ahead.
+pub fn outlook_of(outlook: &ahead::Outlook) -> Outlook {
+    Outlook {
+        refusal: outlook.refusal,
+        tick: outlook.tick,
+        way: way(outlook.way),
+        outputs: Outputs { fields: outlook.outputs },
+        next: image_of(&outlook.next),
+    }
 }

@@ -5,7 +5,7 @@ mod sources;
 use desk::inputs::{CONTACTS, READINGS};
 use desk::names::{Module, Slot, TABLE};
 use desk::outputs::SHORT;
-use sources::{between, c_fields, constants, define, fields, find, paths, read, rows, Field, Row};
+use sources::{between, c_fields, constant, constants, define, fields, find, paths, read, rows, Field, Row};
 
 /// Capitals, with `_` for all that is no letter or digit: `run-away` is `RUN_AWAY`.
 fn capitals(words: &str) -> String {
@@ -97,6 +97,11 @@ fn counts_are_the_sources() {
         ("AVR_FIELDS", library::FIELDS, count_of(&constants(&read("crates/showing/src/lib.rt")), "FIELDS")),
         ("AVR_ORGANS", library::ORGANS, organs.iter().find(|field| field.name == "organ_marks").expect("marks").count),
         ("AVR_READINGS", library::READINGS, samples.iter().filter(|field| field.kind == "Sample").count()),
+        (
+            "AVR_LONGEST_HORIZON",
+            library::LONGEST_HORIZON as usize,
+            constant(&read("crates/ahead/src/lib.rt"), "LONGEST_HORIZON"),
+        ),
     ];
     for (name, ours, theirs) in counts {
         assert_eq!((define(&header, name), ours), (theirs, theirs), "{name}");
@@ -207,7 +212,7 @@ fn named_counts() -> Vec<(String, usize)> {
 }
 
 /// The structs of the boundary: the source, the name there, in C and in Rust.
-const STRUCTS: [(&str, &str, &str, &str); 9] = [
+const STRUCTS: [(&str, &str, &str, &str); 10] = [
     ("coding_drive/src/lib.rt", "DriveImage", "avr_drive", "DriveImage"),
     ("coding_wait/src/lib.rt", "WaitImage", "avr_wait", "WaitImage"),
     ("coding_keys/src/lib.rt", "KeyImage", "avr_keys", "KeyImage"),
@@ -217,6 +222,7 @@ const STRUCTS: [(&str, &str, &str, &str); 9] = [
     ("hosting/src/lib.rt", "Outputs", "avr_outputs", "Outputs"),
     ("boundary/src/lib.rt", "Started", "avr_started", "Started"),
     ("hosting/src/lib.rt", "ImageTicked", "avr_ticked", "Ticked"),
+    ("hosting_ahead/src/lib.rt", "ImageOutlook", "avr_outlook", "Outlook"),
 ];
 
 /// Rust has the readings in one list.

@@ -2,7 +2,7 @@
 
 mod sources;
 
-use library::{start, tick, Brought, Image, Outputs, Sample, FIELDS, READINGS, SLOTS};
+use library::{ahead, start, tick, Brought, Image, Outputs, Sample, FIELDS, LONGEST_HORIZON, READINGS, SLOTS};
 use reference::sheet::slot;
 use reference::values::BASE;
 use sources::{find, read, rows, Row};
@@ -206,4 +206,28 @@ fn refusals() {
     unit.image.fault = unit.number("AVR_FAULT_FAST") + 1;
     let answer = tick(&mut unit.image, &unit.brought, &mut unit.outputs);
     unit.hold(answer, "AVR_REFUSED_IMAGE");
+}
+
+/// T1 is 20 ticks.
+#[test]
+fn outlooks() {
+    let mut unit = Unit::new();
+    for (volts, horizon, way) in [
+        (98.0, 20, "AVR_WAY_RAISE"),
+        (102.0, 20, "AVR_WAY_LOWER"),
+        (98.0, 19, "AVR_WAY_NEITHER"),
+        (100.0, 20, "AVR_WAY_NEITHER"),
+    ] {
+        unit.brought.readings[0].value = volts;
+        let outlook = ahead(unit.image, unit.brought, horizon);
+        unit.hold(outlook.refusal, "AVR_ACCEPTED");
+        unit.hold(outlook.way, way);
+        assert_eq!(outlook.tick, if way == "AVR_WAY_NEITHER" { 0 } else { 20 });
+    }
+    let refusal = |unit: &Unit, horizon: u32| ahead(unit.image, unit.brought, horizon).refusal;
+    unit.hold(refusal(&unit, 0), "AVR_REFUSED_HORIZON");
+    unit.hold(refusal(&unit, LONGEST_HORIZON), "AVR_ACCEPTED");
+    unit.hold(refusal(&unit, LONGEST_HORIZON + 1), "AVR_REFUSED_HORIZON");
+    unit.image.fault = unit.number("AVR_FAULT_FAST") + 1;
+    unit.hold(refusal(&unit, 0), "AVR_REFUSED_IMAGE");
 }

@@ -4,7 +4,10 @@
 use std::marker::PhantomData;
 use std::mem::size_of;
 
-use library::{start, tick, Brought, Image, KeyImage, Outputs, Sample, Started, Ticked, FIELDS, INVALID, READINGS, WORDS};
+use library::{
+    start, tick, Brought, DriveImage, Image, KeyImage, Outlook, Outputs, Sample, Started, Ticked, WaitImage, FIELDS, INVALID,
+    LONGEST_HORIZON, READINGS, WORDS,
+};
 use reference::dice::Dice;
 use reference::input::bit;
 use reference::make_sheet;
@@ -26,6 +29,7 @@ mod boundary {
         pub fn avr_start(answer: *mut u32, list: *const u32, length: usize) -> *mut u32;
         pub fn avr_tick(image: *mut u32, brought: *const Brought, outputs: *mut u32) -> u32;
         pub fn avr_tick_by_value(answer: *mut u32, image: Image, brought: Brought) -> *mut u32;
+        pub fn avr_ahead(answer: *mut u32, image: Image, brought: Brought, horizon: u32) -> *mut u32;
     }
 }
 
@@ -136,6 +140,59 @@ fn a_tick_by_value_is_written_whole() {
         (0, 1, 0, 0, 0)
     );
     assert_eq!(next.settings, BASE);
+}
+
+/// The answer to a look ahead, and its numbers as they stand.
+fn outlook(image: Image, brought: Brought, horizon: u32) -> (Outlook, Vec<u32>) {
+    let mut lent = Lent::<Outlook>::new();
+    // SAFETY: memory for the answer, and plain values.
+    unsafe { boundary::avr_ahead(lent.place(), image, brought, horizon) };
+    (lent.value(), lent.words[ROOM..lent.words.len() - ROOM].to_vec())
+}
+
+/// A lower after 13 ticks more, with the sensor's tap 29. The places are counted by hand: three numbers, the outputs, the image.
+#[test]
+fn an_outlook_is_written_whole() {
+    let image = fresh(&[(slot::T1, 33), (slot::TAP_SOURCE, 2), (slot::N_START, 41)]);
+    let image = Image { wait: WaitImage { side: 2, ticks: 20 }, ..image };
+    let mut high = Brought { sensor: 29, ..idle() };
+    high.readings[0] = Sample { quality: 0, value: 102.0 };
+    let (found, words) = outlook(image, high, 50);
+    assert_eq!((found.refusal, found.tick, found.way), (0, 13, 2));
+    assert_eq!((found.outputs.fields[1], found.outputs.fields[3], found.outputs.fields[25]), (1, 29, 41));
+    assert_eq!((found.next.settings, found.next.operations, found.next.repeat), (image.settings, 41, 2));
+    assert_eq!((found.next.drive.kind, found.next.drive.direction, found.next.drive.ticks), (1, 1, 0));
+    assert_eq!(words[..3], [0, 13, 2]);
+    assert_eq!(words[3..3 + FIELDS], found.outputs.fields);
+    assert_eq!(words[3 + FIELDS..], found.next.words());
+}
+
+/// The last number of the image is the remembered press: one that the manual tick keeps while the command is asked.
+#[test]
+fn an_outlook_without_a_command_is_written_to_its_end() {
+    let manual = Brought { contacts: 1 << bit::BREAKER_CLOSED, ..idle() };
+    let image = Image { drive: DriveImage { kind: 4, direction: 1, ticks: 5 }, remembered: 2, ..fresh(&[(slot::T5, 70)]) };
+    let (none, words) = outlook(image, manual, 60);
+    assert_eq!((none.refusal, none.tick, none.way), (0, 0, 0));
+    assert_eq!((none.outputs.fields[1], none.outputs.fields[24], none.next.drive.ticks), (1, 1, 65));
+    assert_eq!(words.last(), Some(&2));
+}
+
+/// Refused with the image as it was handed in, each number of which is its own.
+#[test]
+fn a_refused_outlook_is_written_whole() {
+    let image = Image::from_words(std::array::from_fn(|at| 1_000 + at as u32));
+    for horizon in [0, 1, u32::MAX] {
+        let (refused, words) = outlook(image, idle(), horizon);
+        assert_eq!((refused.refusal, refused.next), (4, image));
+        assert_eq!(words, [&[4][..], &[0; 2 + FIELDS], &image.words()].concat());
+    }
+    let image = Image { remembered: 1, ..fresh(&[]) };
+    for horizon in [0, LONGEST_HORIZON + 1] {
+        let (refused, words) = outlook(image, idle(), horizon);
+        assert_eq!((refused.refusal, refused.next), (6, image));
+        assert_eq!(words, [&[6][..], &[0; 2 + FIELDS], &image.words()].concat());
+    }
 }
 
 /// Each number of an image goes there and back in its place.

@@ -5,15 +5,17 @@
 //! thousandth", ticket 2, "Drives without a switching contact", ticket 3,
 //! "Compensation along the line's impedance", ticket 4, "The reading tested in
 //! another order of work", ticket 5, "The breaker's own rating", ticket 6, "A
-//! press while the drive runs", and ticket 7, "Panel and dispatcher apart". A
-//! tick is 5 ms. Delays count ticks, voltages are in mV, currents in mA, R and X
-//! in mΩ, primary ratings in A.
+//! press while the drive runs", ticket 7, "Panel and dispatcher apart", and
+//! ticket 8, "When would it move?". A tick is 5 ms. Delays count ticks, voltages
+//! are in mV, currents in mA, R and X in mΩ, primary ratings in A.
 //!
 //! * [`sheet::check`] takes or refuses a setting sheet,
-//! * [`tick::tick`] advances a record by one tick and gives its outputs.
+//! * [`tick::tick`] advances a record by one tick and gives its outputs,
+//! * [`ahead::ahead`] says on which tick the first command would begin.
 
 #![forbid(unsafe_code)]
 
+pub mod ahead;
 pub mod blocks;
 pub mod buttons;
 pub mod command;

@@ -80,6 +80,13 @@ pub fn constants(source: &str) -> Vec<(String, usize)> {
     named.filter_map(|(name, value)| value.parse().ok().map(|number| (name.to_string(), number))).collect()
 }
 
+/// The number of one constant, of whichever type: `const NAME: u32 = 36_000;`.
+pub fn constant(source: &str, name: &str) -> usize {
+    let rest = between(source, &format!("const {name}: "), ";");
+    let number = rest.split_once(" = ").map(|(_, number)| number.trim().replace('_', ""));
+    number.and_then(|number| number.parse().ok()).unwrap_or_else(|| panic!("{name} is no number: {rest}"))
+}
+
 /// A field of a struct: its name, its type in Rust's words, and how many of it there are.
 #[derive(Clone, Debug, PartialEq)]
 pub struct Field {

@@ -2,6 +2,7 @@
 
 #![allow(dead_code)]
 
+pub mod any;
 pub mod courses;
 pub mod modes;
 pub mod scenes;
