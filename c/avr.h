@@ -25,11 +25,11 @@
 extern "C" {
 #endif
 
-#define AVR_SLOTS 68    /* numbers of a setting sheet */
-#define AVR_ORGANS 7    /* measuring organs */
-#define AVR_READINGS 12 /* readings of a tick, each part of a pair being one */
-#define AVR_FIELDS 28   /* outputs of a tick */
-#define AVR_LONGEST_HORIZON 36000 /* ticks of a look ahead, 180 s */
+#define AVR_SLOTS 68              /* numbers of a setting sheet */
+#define AVR_ORGANS 7              /* measuring organs */
+#define AVR_READINGS 12           /* readings of a tick, each part of a pair being one */
+#define AVR_FIELDS 28             /* outputs of a tick */
+#define AVR_LONGEST_HORIZON 36000 /* ticks of the longest look ahead, 180 s */
 
 /*
  * The slots of a setting sheet: the manual's name, the meaning and unit; the
@@ -375,6 +375,12 @@ avr_ticked avr_tick_by_value(avr_image image, avr_brought brought);
  * AVR_REFUSED_IMAGE, as a tick's; else AVR_REFUSED_HORIZON, where `horizon` is
  * 0 or above AVR_LONGEST_HORIZON: tick 0, AVR_WAY_NEITHER, outputs all 0, and
  * `next` is `image`.
+ *
+ * It takes as long as so many ticks, up to the command. Over the longest
+ * horizon these are 100 to 120 million instructions, 6 to 9 ms on a desktop
+ * processor: more than the 5 ms from one tick to the next. So a host that
+ * ticks calls it on a copy of its image, from another thread, or over a
+ * shorter horizon and looks on from `next`.
  */
 avr_outlook avr_ahead(avr_image image, avr_brought brought, uint32_t horizon);
 
