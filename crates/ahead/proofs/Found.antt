@@ -15,7 +15,7 @@ use Rattle.rules.specs.Lists.{leftBy, seenOn}
 use Rattle.rules.proofs.Steps.{never-both}
 use Rattle.ahead.specs.declared.Outlook.{Outlook}
 use Rattle.ahead.specs.Looking.{lookedOn, lookedFrom, begunBy, standsAt, foundOr, firstAfter}
-use Rattle.ahead.specs.Words.{ticksOf, afterTicks, NoCommand}
+use Rattle.ahead.specs.Words.{repeatedTicks, afterTicks, NoCommand}
 use Rattle.ahead.proofs.Begun.{none-exactly}
 
 module _ (i : Input) where
@@ -25,7 +25,7 @@ module _ (i : Input) where
     pub before : ℕ
     pub later : ℕ
     pub whole : n ≡ before + suc later
-    pub none : NoCommand (ticksOf a i before)
+    pub none : NoCommand (repeatedTicks a i before)
     pub begins : begunBy (seenOn (afterTicks a i before) i) ≡ To direction
     pub is : o ≡ standsAt (k + before + 1) (To direction) (lookedOn (afterTicks a i before) i)
 
@@ -35,7 +35,7 @@ module _ (i : Input) where
   lastOf last a (suc n) = lastOf (standsAt 0 Neither (lookedOn a i)) (leftBy a i) n
 
   pub record NoneFound (last : Outlook) (a : At Regulator) (n : ℕ) (o : Outlook) : Type 0 where
-    pub none : NoCommand (ticksOf a i n)
+    pub none : NoCommand (repeatedTicks a i n)
     pub is : o ≡ lastOf last a n
 
   module _ (a : At Regulator) (n k : ℕ) (last : Outlook) where

@@ -1,39 +1,32 @@
 -- The laws of a look ahead.
 -- Assumes nothing.
-use Prim.Native.Nat.{ℕ, zero, suc, _+_, _-_, _≤_, _<_}
+use Prim.Native.Nat.{ℕ, zero, suc, _+_}
 use native.Mathlib.Omega.{arith}
-use mathlib.Core.Path.{_≡_, refl, sym, ap, _∙_, subst}
-use mathlib.Core.Bool.{Bool, true, false, _&&_, true≢false, false≢true}
-use mathlib.Core.List.{List, [], _∷_, _++_}
+use mathlib.Core.Path.{_≡_, refl, sym, ap, _∙_}
+use mathlib.Core.Bool.{true, false}
+use mathlib.Core.List.{List, _∷_, _++_}
 use mathlib.Core.Logic.{_⊎_, inl, inr, ⊎-elim}
-use lib.Dec.{eqb, leb}
 use borrow.Author.Tests.{eq-eqb, ne-eqb}
 use lib.ListN.{length, getD, replicate, length-replicate}
 use Rattle.common.specs.Choice.{choose}
 use Rattle.common.proofs.Cases.{yes, no, chosen}
-use Rattle.common.proofs.Joined.{and-left, and-right}
 use Rattle.ways.specs.declared.Direction.{Direction}
-use Rattle.ways.specs.declared.Way.{Way}
 use Rattle.ways.specs.declared.Way.the-variants.{Neither, To}
-use Rattle.drive_follow.specs.Follow.{restsOf}
 use Rattle.input.specs.declared.Input.{Input}
-use Rattle.input.specs.Brought.{contactsOf}
 use Rattle.record.specs.declared.Regulator.{Regulator}
 use Rattle.record_limits.specs.Limits.{withinOf}
-use Rattle.record_starting.specs.Starting.{freshOf}
-use Rattle.claim.specs.Claim.{Tick, Begins, Command, modeField, blockField}
+use Rattle.claim.specs.Claim.{Tick, Begins, modeField, blockField}
 use Rattle.claim.specs.Runs.{At}
 use Rattle.claim.proofs.Runs.{length-run}
-use Rattle.rules.specs.Ticks.{isOut, allOff, tickOf}
 use Rattle.rules.specs.Lists.{leftBy, seenOn}
 use Rattle.rules.proofs.Steps.{Linked, within-kept}
 use Rattle.rules.proofs.Rows.{linked-step}
 use Rattle.rules.proofs.Waits.{begun-free}
 use Rattle.history.specs.Pasts.{startsOn}
 use Rattle.ahead.specs.declared.Outlook.{Outlook}
-use Rattle.ahead.specs.Looking.{Looked, lookedOn, lookedFrom, begunBy, standsAt, foundOr, firstAfter, asGiven, outlookFrom, isHorizon, longestHorizon, aheadOf}
-use Rattle.ahead.specs.Words.{ticksOf, afterTicks, NoCommand, Named, Unnamed, First, ranOf, laterTick, laterBy}
-use Rattle.ahead.proofs.Begun.{no-way, begins-to, none-exactly}
+use Rattle.ahead.specs.Looking.{lookedOn, standsAt, asGiven, outlookFrom, isHorizon, aheadOf}
+use Rattle.ahead.specs.Words.{repeatedTicks, afterTicks, NoCommand, Named, Unnamed, First, ticksRun}
+use Rattle.ahead.proofs.Begun.{no-way, begins-to}
 use Rattle.ahead.proofs.Found.{Found, NoneFound, lastOf, looked}
 
 -- ---- the record along the ticks
@@ -65,9 +58,9 @@ module _ (i : Input) where
   last-plain last a (suc n) e = last-plain (standsAt 0 Neither (lookedOn a i)) (leftBy a i) n (refl, refl, refl)
 
   -- the ticks, cut at one of them
-  pub ticks-cut : (a : At Regulator) (n m p : ℕ) → p ≡ n + suc m → ticksOf a i p ≡ ticksOf a i n ++ (seenOn (afterTicks a i n) i ∷ ticksOf (leftBy (afterTicks a i n) i) i m)
+  pub ticks-cut : (a : At Regulator) (n m p : ℕ) → p ≡ n + suc m → repeatedTicks a i p ≡ repeatedTicks a i n ++ (seenOn (afterTicks a i n) i ∷ repeatedTicks (leftBy (afterTicks a i n) i) i m)
   ticks-cut a n m zero e = absurd (omega arith)
-  ticks-cut a zero m (suc p) e = let z : p ≡ m = omega arith in ap (λ (q : ℕ). seenOn a i ∷ ticksOf (leftBy a i) i q) z
+  ticks-cut a zero m (suc p) e = let z : p ≡ m = omega arith in ap (λ (q : ℕ). seenOn a i ∷ repeatedTicks (leftBy a i) i q) z
   ticks-cut a (suc n) m (suc p) e = ap (λ (l : List Tick). seenOn a i ∷ l) (ticks-cut (leftBy a i) n m p (omega arith))
 
 -- ---- the answer: 4, 6 or the look
@@ -152,14 +145,14 @@ module _ (r : Regulator) (i : Input) (n : ℕ) where
     begins-at : (o : Outlook) → o .way ≡ To d → (f : Found i (startsOn r) n 0 o) → Begins d (seenOn (afterTicks (startsOn r) i (f .before)) i)
     begins-at o w f = begins-to _ d (f .begins ∙ ap To (found-way o w f))
 
-    first-of : (o : Outlook) → o .way ≡ To d → Found i (startsOn r) n 0 o → First (ticksOf (startsOn r) i n) d o
+    first-of : (o : Outlook) → o .way ≡ To d → Found i (startsOn r) n 0 o → First (repeatedTicks (startsOn r) i n) d o
     first-of o w f =
-        let m : length (ticksOf (startsOn r) i (f .before)) ≡ f .before = length-run leftBy seenOn (startsOn r) (replicate (f .before) i) ∙ length-replicate (f .before) i in
+        let m : length (repeatedTicks (startsOn r) i (f .before)) ≡ f .before = length-run leftBy seenOn (startsOn r) (replicate (f .before) i) ∙ length-replicate (f .before) i in
         let t : o .tick ≡ 0 + f .before + 1 = ap (λ (q : Outlook). q .tick) (f .is) in
         record {
-          front = ticksOf (startsOn r) i (f .before);
+          front = repeatedTicks (startsOn r) i (f .before);
           at = seenOn (afterTicks (startsOn r) i (f .before)) i;
-          post = ticksOf (leftBy (afterTicks (startsOn r) i (f .before)) i) i (f .later);
+          post = repeatedTicks (leftBy (afterTicks (startsOn r) i (f .before)) i) i (f .later);
           whole = ticks-cut i (startsOn r) (f .before) (f .later) n (f .whole);
           none = f .none;
           begins = begins-at o w f;
@@ -168,11 +161,11 @@ module _ (r : Regulator) (i : Input) (n : ℕ) where
         }
 
     -- "the first command": the tick of that number begins it, by demand 3's word, and none before it begins any
-    pub first : aheadOf r i n .way ≡ To d → First (ticksOf (startsOn r) i n) d (aheadOf r i n)
+    pub first : aheadOf r i n .way ≡ To d → First (repeatedTicks (startsOn r) i n) d (aheadOf r i n)
     first =
-        answer-cases (λ (o : Outlook). o .way ≡ To d → First (ticksOf (startsOn r) i n) d o) (λ h w. absurd (no-way d w)) (λ h k w. absurd (no-way d w))
+        answer-cases (λ (o : Outlook). o .way ≡ To d → First (repeatedTicks (startsOn r) i n) d o) (λ h w. absurd (no-way d w)) (λ h k w. absurd (no-way d w))
         (λ h k.
-        looked-cases (λ (o : Outlook). o .way ≡ To d → First (ticksOf (startsOn r) i n) d o) (λ o f w. first-of o w f) (λ o f w. absurd (not-found o w f)))
+        looked-cases (λ (o : Outlook). o .way ≡ To d → First (repeatedTicks (startsOn r) i n) d o) (λ o f w. first-of o w f) (λ o f w. absurd (not-found o w f)))
 
     abbrev Free : Outlook → Type 0
     Free o = (getD (o .outputs) (modeField (i .contacts)) 0 ≡ 0) × (getD (o .outputs) (blockField d) 0 ≡ 0)
@@ -194,15 +187,15 @@ module _ (r : Regulator) (i : Input) (n : ℕ) where
   way-found o w f = no-way (f .direction) (sym w ∙ ap (λ (q : Outlook). q .way) (f .is))
 
   -- no way is told only where none of the ticks begins a command
-  pub none : aheadOf r i n .refusal ≡ 0 → aheadOf r i n .way ≡ Neither → NoCommand (ticksOf (startsOn r) i n)
+  pub none : aheadOf r i n .refusal ≡ 0 → aheadOf r i n .way ≡ Neither → NoCommand (repeatedTicks (startsOn r) i n)
   none =
-      answer-cases (λ (o : Outlook). o .refusal ≡ 0 → o .way ≡ Neither → NoCommand (ticksOf (startsOn r) i n)) (λ h e. absurd (omega arith)) (λ h k e. absurd (omega arith))
+      answer-cases (λ (o : Outlook). o .refusal ≡ 0 → o .way ≡ Neither → NoCommand (repeatedTicks (startsOn r) i n)) (λ h e. absurd (omega arith)) (λ h k e. absurd (omega arith))
       (λ h k.
-      looked-cases (λ (o : Outlook). o .refusal ≡ 0 → o .way ≡ Neither → NoCommand (ticksOf (startsOn r) i n)) (λ o f _ w. absurd (way-found o w f))
+      looked-cases (λ (o : Outlook). o .refusal ≡ 0 → o .way ≡ Neither → NoCommand (repeatedTicks (startsOn r) i n)) (λ o f _ w. absurd (way-found o w f))
       (λ o f _ w. f .none))
 
   abbrev Stands : Outlook → Type 0
-  Stands o = o .next ≡ afterTicks (startsOn r) i (ranOf n o) .got
+  Stands o = o .next ≡ afterTicks (startsOn r) i (ticksRun n o) .got
 
   -- the record is the one that so many ticks leave
   pub stands : aheadOf r i n .refusal ≡ 0 → Stands (aheadOf r i n)
@@ -213,14 +206,14 @@ module _ (r : Regulator) (i : Input) (n : ℕ) where
       stands-found : (o : Outlook) → Found i (startsOn r) n 0 o → Stands o
       stands-found o f =
           let t : o .tick ≡ 0 + f .before + 1 = ap (λ (q : Outlook). q .tick) (f .is) in
-          let z : ranOf n o ≡ suc (f .before) = sym (no _ _ _ _ (ne-eqb (o .tick) 0 (λ e. omega arith)) (omega arith)) in
+          let z : ticksRun n o ≡ suc (f .before) = sym (no _ _ _ _ (ne-eqb (o .tick) 0 (λ e. omega arith)) (omega arith)) in
           ap (λ (q : Outlook). q .next) (f .is)
           ∙ sym (ap (λ (k : ℕ). afterTicks (startsOn r) i k .got) z ∙ ap (λ (b : At Regulator). b .got) (after-suc i (startsOn r) (f .before)))
 
       stands-none : (o : Outlook) → NoneFound i (asGiven 0 r) (startsOn r) n o → Stands o
       stands-none o f =
           let t : o .tick ≡ 0 = ap (λ (q : Outlook). q .tick) (f .is) ∙ last-plain i (asGiven 0 r) (startsOn r) n (refl, refl, refl) .1 in
-          let z : ranOf n o ≡ n = sym (yes _ _ _ _ (eq-eqb _ _ t) refl) in
+          let z : ticksRun n o ≡ n = sym (yes _ _ _ _ (eq-eqb _ _ t) refl) in
           ap (λ (q : Outlook). q .next) (f .is) ∙ last-next i (asGiven 0 r) (startsOn r) n refl ∙ sym (ap (λ (k : ℕ). afterTicks (startsOn r) i k .got) z)
 
   -- all that a look promises, from the first

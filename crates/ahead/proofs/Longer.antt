@@ -1,17 +1,14 @@
 -- Looks over other horizons: a longer one gives the same answer once a command is found, and one without an answer may be looked on from.
 -- Assumes nothing.
-use Prim.Native.Nat.{ℕ, zero, suc, _+_, _-_, _≤_}
+use Prim.Native.Nat.{ℕ, zero, suc, _+_}
 use native.Mathlib.Omega.{arith}
 use mathlib.Core.Path.{_≡_, refl, sym, ap, _∙_}
-use mathlib.Core.Bool.{Bool, true, false, true≢false, false≢true}
+use mathlib.Core.Bool.{true, false≢true}
 use mathlib.Core.List.{List, [], _∷_}
 use mathlib.Core.Logic.{⊎-elim}
-use Rattle.common.specs.Choice.{choose}
-use Rattle.common.proofs.Joined.{split}
 use Rattle.ways.specs.declared.Direction.{Direction}
 use Rattle.ways.specs.declared.Way.{Way}
 use Rattle.ways.specs.declared.Way.the-variants.{Neither, To}
-use Rattle.drive_follow.specs.Follow.{restsOf}
 use Rattle.input.specs.declared.Input.{Input}
 use Rattle.record.specs.declared.Regulator.{Regulator}
 use Rattle.record_limits.specs.Limits.{withinOf}
@@ -21,14 +18,14 @@ use Rattle.rules.proofs.Steps.{never-both}
 use Rattle.history.specs.Pasts.{startsOn}
 use Rattle.ahead.specs.declared.Outlook.{Outlook}
 use Rattle.ahead.specs.Looking.{Looked, lookedOn, lookedFrom, begunBy, standsAt, foundOr, firstAfter, asGiven, outlookFrom, isHorizon, aheadOf}
-use Rattle.ahead.specs.Words.{ticksOf, afterTicks, NoCommand, laterTick, laterBy}
+use Rattle.ahead.specs.Words.{repeatedTicks, afterTicks, NoCommand, laterTick, laterBy}
 use Rattle.ahead.proofs.Begun.{no-way, none-exactly}
-use Rattle.ahead.proofs.Found.{Found, NoneFound, lastOf, looked}
+use Rattle.ahead.proofs.Found.{Found, lastOf, looked}
 use Rattle.ahead.proofs.Laws.{within-after, linked-after, last-next, last-plain, answer-cases, look-is, none}
 
 module _ (i : Input) where
   -- past a tick that begins no command
-  passes : (a : At Regulator) (n k : ℕ) (last : Outlook) → NoCommand (ticksOf a i 1)
+  passes : (a : At Regulator) (n k : ℕ) (last : Outlook) → NoCommand (repeatedTicks a i 1)
       → firstAfter k last (lookedFrom a i (suc n)) ≡ firstAfter (k + 1) (standsAt 0 Neither (lookedOn a i)) (lookedFrom (leftBy a i) i n)
   unfolding firstAfter foundOr
   passes a n k last h =
@@ -36,7 +33,7 @@ module _ (i : Input) where
       (none-exactly (seenOn a i) (never-both (a .got) i) .1 (h .0))
 
   -- a command that is found is found whatever comes after it
-  finds : (a : At Regulator) (d : Direction) (before later n k : ℕ) (last : Outlook) → n ≡ before + suc later → NoCommand (ticksOf a i before)
+  finds : (a : At Regulator) (d : Direction) (before later n k : ℕ) (last : Outlook) → n ≡ before + suc later → NoCommand (repeatedTicks a i before)
       → begunBy (seenOn (afterTicks a i before) i) ≡ To d
       → firstAfter k last (lookedFrom a i n) ≡ standsAt (k + before + 1) (To d) (lookedOn (afterTicks a i before) i)
   unfolding firstAfter foundOr
@@ -50,7 +47,7 @@ module _ (i : Input) where
       ∙ ap (λ (m : ℕ). standsAt m (To d) (lookedOn (afterTicks (leftBy a i) i before) i)) (omega arith)
 
   -- ticks without a command, and then the rest
-  passes-all : (a : At Regulator) (n m p k : ℕ) (last : Outlook) → p ≡ n + m → NoCommand (ticksOf a i n)
+  passes-all : (a : At Regulator) (n m p k : ℕ) (last : Outlook) → p ≡ n + m → NoCommand (repeatedTicks a i n)
       → firstAfter k last (lookedFrom a i p) ≡ firstAfter (k + n) (lastOf i last a n) (lookedFrom (afterTicks a i n) i m)
   passes-all a zero m p k last e h = λ j. firstAfter (zero-more j) last (lookedFrom a i (same j))
     where
@@ -103,7 +100,7 @@ module _ (r : Regulator) (i : Input) (n m : ℕ) where
       record { rest = linked-after i (startsOn r) p (λ _. refl) (within-after i (startsOn r) p ∙ h) j; got = afterTicks (startsOn r) i p .got }
 
   onward : withinOf r ≡ true → isHorizon n ≡ true → aheadOf r i n .way ≡ Neither
-      → (aheadOf r i n .next ≡ afterTicks (startsOn r) i n .got) × NoCommand (ticksOf (startsOn r) i n)
+      → (aheadOf r i n .next ≡ afterTicks (startsOn r) i n .got) × NoCommand (repeatedTicks (startsOn r) i n)
   onward h k w =
       let e = look-is r i n h k in
       ⊎-elim (λ f. absurd (no-way (f .direction) (sym w ∙ ap (λ (p : Outlook). p .way) (e ∙ f .is))))

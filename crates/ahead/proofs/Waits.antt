@@ -5,7 +5,7 @@ use native.Mathlib.Omega.{arith}
 use mathlib.Core.Path.{_≡_, refl, sym, ap, _∙_, subst}
 use mathlib.Core.Bool.{Bool, true, false, not, _&&_, true≢false}
 use mathlib.Core.List.{List, [], _∷_, _++_}
-use mathlib.Core.Logic.{_⊎_, inl, inr, ⊎-elim, _↔_}
+use mathlib.Core.Logic.{⊎-elim, _↔_}
 use borrow.Author.Tests.{leb-true, leb-false}
 use lib.Dec.{leb}
 use lib.ListN.{length, replicate, length-replicate}
@@ -34,7 +34,7 @@ use Rattle.rules.specs.declared.Ticked.{Ticked}
 use Rattle.rules.specs.Ticks.{isOut}
 use Rattle.rules.specs.Lists.{leftBy, seenOn, delayIn, opening}
 use Rattle.rules.proofs.Claim.{kept}
-use Rattle.rules.proofs.Shown.{contactsAt, sensedAt, decidedAt, liveAt}
+use Rattle.rules.proofs.Shown.{contactsAt, sensedAt, decidedAt}
 use Rattle.rules.proofs.Steps.{tickAt, nextAt, Linked, Live, live-of, settings-kept, accepted-within, never-both}
 use Rattle.rules.proofs.Rows.{linked-step}
 use Rattle.rules.proofs.Waits.{wait-step, begun-moves, force-is, force-least, force-most}
@@ -43,9 +43,9 @@ use Rattle.history.proofs.Fields.{live-repeat, not-out}
 use Rattle.history.proofs.Steps.{command-of, none-decided}
 use Rattle.ahead.specs.declared.Outlook.{Outlook}
 use Rattle.ahead.specs.Looking.{begunBy, asGiven, isHorizon, aheadOf}
-use Rattle.ahead.specs.Words.{ticksOf, afterTicks, NoCommand, WaitsOn}
+use Rattle.ahead.specs.Words.{repeatedTicks, afterTicks, NoCommand, WaitsOn}
 use Rattle.ahead.proofs.Begun.{no-way, begins-to, way-of}
-use Rattle.ahead.proofs.Found.{Found, NoneFound, looked}
+use Rattle.ahead.proofs.Found.{Found, looked}
 use Rattle.ahead.proofs.Laws.{linked-after, ticks-cut, look-is}
 
 -- ---- the delay in force stays from a waiting tick to the next
@@ -110,12 +110,12 @@ module _ (d : Direction) (i : Input) where
   fewer : (a : At Regulator) (m n : ℕ) → m ≤ n → WaitsOn d a i n → WaitsOn d a i m
   fewer a m n h w k p none = w k (omega arith) none
 
-  all-waiting : (a : At Regulator) (n : ℕ) → WaitsOn d a i n → NoCommand (ticksOf a i n) → All (Waiting d) (ticksOf a i n)
+  all-waiting : (a : At Regulator) (n : ℕ) → WaitsOn d a i n → NoCommand (repeatedTicks a i n) → All (Waiting d) (repeatedTicks a i n)
   all-waiting a zero w none = tt
   all-waiting a (suc n) w none = (w 0 (omega arith) tt, all-waiting (leftBy a i) n (on-from a n w (none .0)) (none .1))
 
-  in-force : (delay : ℕ) (a : At Regulator) (n : ℕ) → Linked (a .rest) (a .got) → delayIn d (a .got) i ≡ delay → WaitsOn d a i n → NoCommand (ticksOf a i n)
-      → All (InForce d delay) (ticksOf a i n) × (delayIn d (afterTicks a i n .got) i ≡ delay)
+  in-force : (delay : ℕ) (a : At Regulator) (n : ℕ) → Linked (a .rest) (a .got) → delayIn d (a .got) i ≡ delay → WaitsOn d a i n → NoCommand (repeatedTicks a i n)
+      → All (InForce d delay) (repeatedTicks a i n) × (delayIn d (afterTicks a i n .got) i ≡ delay)
   in-force delay a zero k e w none = (tt, e)
   in-force delay a (suc n) k e w none =
       let f =
@@ -124,7 +124,7 @@ module _ (d : Direction) (i : Input) where
       (on-from a n w (none .0)) (none .1) in
       ((force-is d (a .rest) (a .got) i ∙ e, f .0), f .1)
 
-  pub length-ticks : (a : At Regulator) (n : ℕ) → length (ticksOf a i n) ≡ n
+  pub length-ticks : (a : At Regulator) (n : ℕ) → length (repeatedTicks a i n) ≡ n
   length-ticks a n = length-run leftBy seenOn a (replicate n i) ∙ length-replicate n i
 
   -- a waiting tick begins a command to its side, or none
@@ -151,30 +151,30 @@ module _ (d : Direction) (r : Regulator) (i : Input) (n : ℕ) (w : WaitsOn d (s
   within : withinOf r ≡ true
   within = let p = some-tick in accepted-within r i (w 0 (omega arith) tt .lasting .accepted)
 
-  promise : Kept (opening r) (ticksOf A i n)
+  promise : Kept (opening r) (repeatedTicks A i n)
   promise = kept r (replicate n i)
 
   -- the list, cut at the tick after k of them
-  cut-at : (k : ℕ) → k < n → ticksOf A i n ≡ ticksOf A i k ++ (seenOn (afterTicks A i k) i ∷ ticksOf (leftBy (afterTicks A i k) i) i (n - k - 1))
+  cut-at : (k : ℕ) → k < n → repeatedTicks A i n ≡ repeatedTicks A i k ++ (seenOn (afterTicks A i k) i ∷ repeatedTicks (leftBy (afterTicks A i k) i) i (n - k - 1))
   cut-at k p =
       let z : n ≡ k + suc (n - k - 1) = omega arith in
       ticks-cut i A k (n - k - 1) n z
 
-  none-before : (k m : ℕ) → k < m → NoCommand (ticksOf A i m) → NoCommand (ticksOf A i k ++ (seenOn (afterTicks A i k) i ∷ []))
+  none-before : (k m : ℕ) → k < m → NoCommand (repeatedTicks A i m) → NoCommand (repeatedTicks A i k ++ (seenOn (afterTicks A i k) i ∷ []))
   none-before k m p none =
       let z : m ≡ k + suc (m - k - 1) = omega arith in
       let c = subst NoCommand (ticks-cut i A k (m - k - 1) m z) none in
-      all-join _ (ticksOf A i k) _ (all-front _ (ticksOf A i k) _ c) (all-back _ (ticksOf A i k) _ c .0, tt)
+      all-join _ (repeatedTicks A i k) _ (all-front _ (repeatedTicks A i k) _ c) (all-back _ (repeatedTicks A i k) _ c .0, tt)
 
   -- by the longest delay, at the latest
-  due : (m : ℕ) → longest (r .settings) ≤ m → m ≤ n → 1 ≤ longest (r .settings) → NoCommand (ticksOf A i m) → ⊥
+  due : (m : ℕ) → longest (r .settings) ≤ m → m ≤ n → 1 ≤ longest (r .settings) → NoCommand (repeatedTicks A i m) → ⊥
   due m p q some none =
       let k = longest (r .settings) - 1 in
       let before = none-before k m (omega arith) none in
-      let free = all-front _ (ticksOf A i k) _ before in
-      let e : length (ticksOf A i k) ≡ k = length-ticks d i A k in
-      no-begins d i (ticksOf A i k ++ (seenOn (afterTicks A i k) i ∷ [])) before
-      (promise .latest d [] (ticksOf A i k) (seenOn (afterTicks A i k) i) _ (cut-at k (omega arith))
+      let free = all-front _ (repeatedTicks A i k) _ before in
+      let e : length (repeatedTicks A i k) ≡ k = length-ticks d i A k in
+      no-begins d i (repeatedTicks A i k ++ (seenOn (afterTicks A i k) i ∷ [])) before
+      (promise .latest d [] (repeatedTicks A i k) (seenOn (afterTicks A i k) i) _ (cut-at k (omega arith))
       (all-waiting d i A k (fewer d i A k n (omega arith) w) free) (w k (omega arith) free) (omega arith))
 
   abbrev AtMost : Outlook → Type 0
@@ -215,11 +215,11 @@ module _ (d : Direction) (r : Regulator) (i : Input) (n : ℕ) (w : WaitsOn d (s
   -- ---- where waiting began at zero
 
   module _ (zero-wait : waitFor d (opening r) ≡ 0) where
-    exact : (k : ℕ) → k < n → NoCommand (ticksOf A i k) → Begins d (seenOn (afterTicks A i k) i) ↔ (length (ticksOf A i k) + 1 ≡ delayIn d r i)
+    exact : (k : ℕ) → k < n → NoCommand (repeatedTicks A i k) → Begins d (seenOn (afterTicks A i k) i) ↔ (length (repeatedTicks A i k) + 1 ≡ delayIn d r i)
     exact k p none =
         let f = in-force d i (delayIn d r i) A k (λ _. refl) refl (fewer d i A k n (omega arith) w) none in
         let a = afterTicks A i k in
-        promise .exactly d (delayIn d r i) [] (ticksOf A i k) (seenOn a i) _ (cut-at k p) zero-wait
+        promise .exactly d (delayIn d r i) [] (repeatedTicks A i k) (seenOn a i) _ (cut-at k p) zero-wait
         (all-waiting d i A k (fewer d i A k n (omega arith) w) none) (w k p none) (f .0) (force-is d (a .rest) (a .got) i ∙ f .1)
 
     abbrev Exactly : Outlook → Type 0
@@ -229,20 +229,20 @@ module _ (d : Direction) (r : Regulator) (i : Input) (n : ℕ) (w : WaitsOn d (s
     exactly-found o f =
         let t : o .tick ≡ 0 + f .before + 1 = ap (λ (q : Outlook). q .tick) (f .is) in
         let z : n ≡ f .before + suc (f .later) = f .whole in
-        let m : length (ticksOf A i (f .before)) ≡ f .before = length-ticks d i A (f .before) in
+        let m : length (repeatedTicks A i (f .before)) ≡ f .before = length-ticks d i A (f .before) in
         let b =
         to-its-side d i (afterTicks A i (f .before)) (linked (f .before)) (w (f .before) (omega arith) (f .none)) (f .direction) (f .begins) in
-        let e : length (ticksOf A i (f .before)) + 1 ≡ delayIn d r i = exact (f .before) (omega arith) (f .none) .0 b in
+        let e : length (repeatedTicks A i (f .before)) + 1 ≡ delayIn d r i = exact (f .before) (omega arith) (f .none) .0 b in
         (found-way o f, omega arith)
 
-    exactly-none : delayIn d r i ≤ n → NoCommand (ticksOf A i n) → ⊥
+    exactly-none : delayIn d r i ≤ n → NoCommand (repeatedTicks A i n) → ⊥
     exactly-none p none =
         let q : 20 ≤ delayIn d r i = force-least d r i within in
         let k = delayIn d r i - 1 in
         let before = none-before k n (omega arith) none in
-        let m : length (ticksOf A i k) ≡ k = length-ticks d i A k in
-        let b = exact k (omega arith) (all-front _ (ticksOf A i k) _ before) .1 (omega arith) in
-        all-back _ (ticksOf A i k) _ before .0 (command-of _ d b)
+        let m : length (repeatedTicks A i k) ≡ k = length-ticks d i A k in
+        let b = exact k (omega arith) (all-front _ (repeatedTicks A i k) _ before) .1 (omega arith) in
+        all-back _ (repeatedTicks A i k) _ before .0 (command-of _ d b)
 
     -- exactly the delay in force
     pub exactly : delayIn d r i ≤ n → Exactly (aheadOf r i n)

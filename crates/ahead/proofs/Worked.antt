@@ -1,7 +1,7 @@
 -- Looks that are worked out: under T1, T2 and T3, by a press, by one that is remembered, from a command under way, and refused.
 -- Assumes nothing.
 use mathlib.Core.Path.{_≡_, refl}
-use mathlib.Core.Bool.{Bool, true, false}
+use mathlib.Core.Bool.{true, false}
 use mathlib.Core.List.{List}
 use Prim.Native.Nat.{ℕ}
 use lib.Ieee.{ofBits}
@@ -11,14 +11,12 @@ use Rattle.ways.specs.declared.Way.{Way}
 use Rattle.ways.specs.declared.Way.the-variants.{Neither, To}
 use Rattle.drive.specs.declared.Drive.{Drive}
 use Rattle.drive.specs.declared.Drive.the-variants.{Resting, Asked, Moving}
-use Rattle.keys.specs.declared.Buttons.{Buttons}
 use Rattle.keys.specs.declared.Keys.{Keys}
 use Rattle.input.specs.declared.Input.{Input}
 use Rattle.record.specs.declared.Regulator.{Regulator}
 use Rattle.record.specs.Whole.{regulatorOf}
 use Rattle.record_starting.specs.Starting.{freshOf}
 use Rattle.rules.proofs.Opened.{opened}
-use Rattle.ahead.specs.declared.Outlook.{Outlook}
 use Rattle.ahead.specs.Looking.{wayBegun, begunBy, foundOr, firstAfter, isHorizon, aheadOf}
 
 -- no button pressed on the previous tick

@@ -2,7 +2,6 @@
 use Prim.Native.Nat.{ℕ, _+_, _≤_, _<_}
 use mathlib.Core.Path.{_≡_}
 use mathlib.Core.List.{List, _∷_, _++_}
-use mathlib.Core.Logic.{_⊎_}
 use lib.Dec.{eqb}
 use lib.ListN.{length, replicate}
 use Rattle.common.specs.Choice.{choose}
@@ -17,8 +16,8 @@ use Rattle.rules.specs.Lists.{leftBy, seenOn}
 use Rattle.ahead.specs.declared.Outlook.{Outlook}
 
 -- the ticks of the tick repeated, and where they lead
-abbrev pub ticksOf : At Regulator → Input → ℕ → List Tick
-ticksOf a i n = runOf leftBy seenOn a (replicate n i)
+abbrev pub repeatedTicks : At Regulator → Input → ℕ → List Tick
+repeatedTicks a i n = runOf leftBy seenOn a (replicate n i)
 
 abbrev pub afterTicks : At Regulator → Input → ℕ → At Regulator
 afterTicks a i n = afterOf leftBy a (replicate n i)
@@ -49,8 +48,8 @@ pub record First (l : List Tick) (d : Direction) (o : Outlook) : Type 0 where
   pub outputs : o .outputs ≡ at .outputs
 
 -- the ticks that were run: to the command, or else to the horizon n
-abbrev pub ranOf : ℕ → Outlook → ℕ
-ranOf n o = choose (eqb (o .tick) 0) n (o .tick)
+abbrev pub ticksRun : ℕ → Outlook → ℕ
+ticksRun n o = choose (eqb (o .tick) 0) n (o .tick)
 
 -- the same, n ticks later
 abbrev pub laterTick : ℕ → Way → ℕ → ℕ
@@ -62,4 +61,4 @@ laterBy n o = record { refusal = o .refusal; tick = laterTick n (o .way) (o .tic
 
 -- each of the first n of the tick repeated is a waiting one, up to a command
 abbrev pub WaitsOn : Direction → At Regulator → Input → ℕ → Type 0
-WaitsOn d a i n = (k : ℕ) → k < n → NoCommand (ticksOf a i k) → Waiting d (seenOn (afterTicks a i k) i)
+WaitsOn d a i n = (k : ℕ) → k < n → NoCommand (repeatedTicks a i k) → Waiting d (seenOn (afterTicks a i k) i)

@@ -4,15 +4,13 @@ use Prim.Native.Nat.{ℕ, suc, _+_, _-_, _≤_, _<_}
 use native.Mathlib.Omega.{arith}
 use mathlib.Core.Path.{_≡_, refl, sym, ap, _∙_, subst}
 use mathlib.Core.Bool.{Bool, true, false, not, _||_, true≢false, false≢true}
-use mathlib.Core.List.{List, [], _∷_}
+use mathlib.Core.List.{List}
 use mathlib.Core.Logic.{⊎-elim}
 use borrow.Author.Tests.{eq-eqb, ltb-true, ltb-false, le-leb, lt-leb, not-true, not-false}
 use lib.Dec.{eqb, leb, ltb}
 use lib.ListN.{getD}
-use Rattle.common.specs.Choice.{choose}
 use Rattle.common.proofs.Cases.{yes, no}
 use Rattle.common.proofs.Joined.{or-is, or-left, or-right, and-false}
-use Rattle.ways.specs.declared.Direction.{Direction}
 use Rattle.ways.specs.declared.Direction.the-variants.{Raise, Lower}
 use Rattle.ways.specs.declared.Way.{Way}
 use Rattle.ways.specs.declared.Way.the-variants.{Neither, To}
@@ -23,7 +21,6 @@ use Rattle.record.specs.declared.Regulator.{Regulator}
 use Rattle.record.specs.declared.State.{State}
 use Rattle.record.specs.Whole.{regulatorOf}
 use Rattle.record_limits.specs.Limits.{withinOf}
-use Rattle.claim.specs.Claim.{Tick}
 use Rattle.claim.specs.Runs.{At}
 use Rattle.rules.specs.declared.Stepped.{Stepped}
 use Rattle.rules.specs.Ticks.{allOff, tickOf, steppedOf}

@@ -11,7 +11,7 @@ ghost use Rattle.claim.specs.Claim.{Kept};
 ghost use Rattle.hosting.specs.Hosting.{refusedImage, isAccepted, imageTickOf, foundOf};
 ghost use Rattle.hosting.specs.Lists.{imageListFrom, imageOpening};
 ghost use Rattle.ahead.specs.Looking.{isHorizon};
-ghost use Rattle.hosting_ahead.specs.Outlooks.{givenBack, imageAheadOf, imageAfter, imageRan};
+ghost use Rattle.hosting_ahead.specs.Outlooks.{givenBack, imageAheadOf, imageAfter, imageTicksRun};
 ghost use Rattle.boundary.specs.Starting.{startedImage};
 use hosting::ImageTicked;
 use hosting::Outputs;
@@ -98,7 +98,7 @@ pub extern "C" fn avr_ahead(image: Image, brought: Brought, horizon: u32) -> Ima
     ensures refusal { λ o. ⌜ o .refusal ≡ choose (isAccepted image) (choose (isHorizon horizon) 0 6) 4 ⌝ }
     ensures left { λ o. ⌜ ((o .refusal ≡ 0 → ⊥) → o ≡ givenBack (o .refusal) image) ⌝ }
     ensures lasting { λ o. ⌜ isAccepted (o .next) ≡ isAccepted image ⌝ }
-    ensures calls { λ o. ⌜ (o .refusal ≡ 0 → o .next ≡ imageAfter image brought (imageRan horizon o)) ⌝ }
+    ensures calls { λ o. ⌜ (o .refusal ≡ 0 → o .next ≡ imageAfter image brought (imageTicksRun horizon o)) ⌝ }
 {
     hosting_ahead::image_ahead(image, brought, horizon)
 }

@@ -17,14 +17,13 @@ use Rattle.record.specs.declared.Regulator.{Regulator}
 use Rattle.record.specs.declared.State.{State}
 use Rattle.record.specs.Whole.{regulatorOf}
 use Rattle.record_limits.specs.Limits.{withinOf}
-use Rattle.input.specs.declared.Input.{Input}
 use Rattle.claim.specs.Runs.{At}
 use Rattle.rules.specs.Ticks.{allOff, tickOf}
 use Rattle.rules.specs.Lists.{leftBy}
 use Rattle.history.specs.Pasts.{startsOn}
 use Rattle.ahead.specs.declared.Outlook.{Outlook}
 use Rattle.ahead.specs.Looking.{wayBegun, asGiven, outlookFrom, longestHorizon, isHorizon, aheadOf}
-use Rattle.ahead.specs.Words.{afterTicks, ranOf}
+use Rattle.ahead.specs.Words.{afterTicks, ticksRun}
 use Rattle.ahead.proofs.Laws.{look-is, refusal-is, given-back, lasting, stands}
 use Rattle.ahead_looking.specs.declared.Glance.{Glance}
 use Rattle.ahead_looking.specs.Glances.{glanceOf}
@@ -43,7 +42,7 @@ use Rattle.hosting.proofs.Lists.{accepted-of, ticked-of, rest-of, none-accepted
 use Rattle.hosting.specs.declared.ImageTicked.{ImageTicked}
 use Rattle.hosting_ahead.specs.declared.ImageOutlook.{ImageOutlook}
 use Rattle.hosting_ahead.specs.declared.Sight.{Sight}
-use Rattle.hosting_ahead.specs.Outlooks.{inNumbers, sightOf, outlookImage, givenBack, imageAheadOf, imageAfter, imageRan}
+use Rattle.hosting_ahead.specs.Outlooks.{inNumbers, sightOf, outlookImage, givenBack, imageAheadOf, imageAfter, imageTicksRun}
 
 -- ---- the clauses of a look that got m, b and n and gave o
 
@@ -51,7 +50,7 @@ abbrev pub Promised : Image → Brought → ℕ → ImageOutlook → Type 0
 Promised m b n o =
     (o ≡ imageAheadOf m b n)
     × ((o .refusal ≡ choose (isAccepted m) (choose (isHorizon n) 0 6) 4)
-    × (((o .refusal ≡ 0 → ⊥) → o ≡ givenBack (o .refusal) m) × ((isAccepted (o .next) ≡ isAccepted m) × (o .refusal ≡ 0 → o .next ≡ imageAfter m b (imageRan n o)))))
+    × (((o .refusal ≡ 0 → ⊥) → o ≡ givenBack (o .refusal) m) × ((isAccepted (o .next) ≡ isAccepted m) × (o .refusal ≡ 0 → o .next ≡ imageAfter m b (imageTicksRun n o)))))
 
 -- on the image of a record
 module _ (r : Regulator) (b : Brought) where
@@ -74,8 +73,8 @@ module _ (r : Regulator) (b : Brought) where
     as-given : (o .refusal ≡ 0 → ⊥) → o ≡ asGiven (o .refusal) r
     as-given q = let e = given-back r (inputOf b) n q in e ∙ ap (λ (k : ℕ). asGiven k r) (sym (ap (λ (p : Outlook). p .refusal) e))
 
-    calls : o .refusal ≡ 0 → imageOf (o .next) ≡ imageAfter (imageOf r) b (ranOf n o)
-    calls e = ap imageOf (stands r (inputOf b) n e) ∙ sym (after-of (startsOn r) (ranOf n o))
+    calls : o .refusal ≡ 0 → imageOf (o .next) ≡ imageAfter (imageOf r) b (ticksRun n o)
+    calls e = ap imageOf (stands r (inputOf b) n e) ∙ sym (after-of (startsOn r) (ticksRun n o))
 
     outlook-promised : Promised (imageOf r) b n (outlookImage o)
     unfolding outlookImage

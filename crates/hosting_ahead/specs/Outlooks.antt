@@ -48,5 +48,5 @@ abbrev pub imageAfter : Image → Brought → ℕ → Image
 imageAfter m b n = afterOf (λ (q : Image) (c : Brought). imageTickOf q c .next) m (replicate n b)
 
 -- the ticks of a look over n: to the command, or else to the horizon
-abbrev pub imageRan : ℕ → ImageOutlook → ℕ
-imageRan n o = choose (eqb (o .tick) 0) n (o .tick)
+abbrev pub imageTicksRun : ℕ → ImageOutlook → ℕ
+imageTicksRun n o = choose (eqb (o .tick) 0) n (o .tick)

@@ -7,7 +7,7 @@ ghost use Rattle.ahead.specs.Looking.{isHorizon, outlookFrom};
 ghost use Rattle.image.specs.Images.{imageWith, recordOf};
 ghost use Rattle.image_input.specs.Bringing.{inputOf};
 ghost use Rattle.hosting.specs.Hosting.{isAccepted, imageTickOf, besidesOf};
-ghost use Rattle.hosting_ahead.specs.Outlooks.{sightOf, inNumbers, outlookImage, givenBack, imageAheadOf, imageAfter, imageRan};
+ghost use Rattle.hosting_ahead.specs.Outlooks.{sightOf, inNumbers, outlookImage, givenBack, imageAheadOf, imageAfter, imageTicksRun};
 use ahead::LONGEST_HORIZON;
 use hosting::Outputs;
 use image::Image;
@@ -121,7 +121,7 @@ pub fn image_ahead(m: Image, b: Brought, horizon: u32) -> ImageOutlook
     ensures refusal { λ o. ⌜ o .refusal ≡ choose (isAccepted m) (choose (isHorizon horizon) 0 6) 4 ⌝ }
     ensures left { λ o. ⌜ ((o .refusal ≡ 0 → ⊥) → o ≡ givenBack (o .refusal) m) ⌝ }
     ensures lasting { λ o. ⌜ isAccepted (o .next) ≡ isAccepted m ⌝ }
-    ensures calls { λ o. ⌜ (o .refusal ≡ 0 → o .next ≡ imageAfter m b (imageRan horizon o)) ⌝ }
+    ensures calls { λ o. ⌜ (o .refusal ≡ 0 → o .next ≡ imageAfter m b (imageTicksRun horizon o)) ⌝ }
 {
     let settings = m.settings;
     let numbers = image_reading::numbers_in(m);
