@@ -266,6 +266,16 @@ fn nothing_to_count(list: &[u32]) -> String {
     format!("no contact tells of a move, so XB6 = {source} has nothing to count; choose XB6 off, BCD or sensor, or XB2 impulse")
 }
 
+/// A setting, `T4 = 15 s`.
+pub fn said(list: &[u32], slot: usize) -> String {
+    format!("{} = {}", TABLE[slot].name, value::text(&TABLE[slot], list[slot]))
+}
+
+/// Whether a slot has a word.
+pub fn is(list: &[u32], slot: usize, word: &str) -> bool {
+    value::text(&TABLE[slot], list[slot]) == word
+}
+
 /// Whether the sheet is for a drive without a switching contact.
 pub fn is_continuous(list: &[u32]) -> bool {
     list[CONTINUOUS] == 1

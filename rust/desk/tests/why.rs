@@ -77,21 +77,25 @@ fn fault(name: &str, comes: &str) -> Vec<String> {
 }
 
 const LATCHED: &str = "is latched until reset";
-const COMES: &str = "comes within the horizon and is latched until reset";
+
+/// One that comes in the look, with what it comes by.
+fn coming(name: &str, stays: &str) -> Vec<String> {
+    fault(name, &format!("comes within the horizon, as {stays}, and is latched until reset"))
+}
 
 #[test]
 fn each_fault_is_named_and_whether_it_was_there() {
     let closes = "30,,,,,,1\n";
     assert_eq!(moved("", "", &["--at", "80 ticks"]), fault("not started", LATCHED));
-    assert_eq!(moved("", "", &["--at", "30 ticks"]), fault("not started", COMES));
+    assert_eq!(moved("", "", &["--at", "30 ticks"]), coming("not started", "the switching contact stays open"));
     assert_eq!(moved("T4 = 0.1 s\n", closes, &["--at", "80 ticks"]), fault("long move", LATCHED));
-    assert_eq!(moved("T4 = 0.1 s\n", closes, &["--at", "35 ticks"]), fault("long move", COMES));
+    assert_eq!(moved("T4 = 0.1 s\n", closes, &["--at", "35 ticks"]), coming("long move", "the switching contact stays closed"));
     assert_eq!(moved("T6 = 1 s\n", &format!("{closes}40,,,,,,0\n"), &["--at", "80 ticks"]), fault("fast move", LATCHED));
     assert_eq!(moved("", "10,,,,,,1\n", &["--at", "15 ticks"]), fault("run-away", LATCHED));
     let pressed = moved("", "10,,,,,1,1\n", &["--at", "15 ticks"]);
     assert_eq!(pressed, fault("run-away", "comes in spite of reset"));
     let unseen = "XB2 = continuous\nT4 = 0.1 s\n";
-    assert_eq!(moved(unseen, "", &["--at", "30 ticks"]), fault("long command", COMES));
+    assert_eq!(moved(unseen, "", &["--at", "30 ticks"]), coming("long command", "the voltage stays out of band"));
     assert_eq!(moved(unseen, "", &["--at", "80 ticks"]), fault("long command", LATCHED));
 }
 

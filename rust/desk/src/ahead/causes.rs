@@ -7,10 +7,9 @@ use crate::cells;
 use crate::drive::Way;
 use crate::inputs::{bit, is_on, BREAKER, CONTACTS, END_DOWN, END_UP, I_BUS, READINGS, SUPPLY_OFF};
 use crate::missing;
-use crate::names::{at, rated_amps, MODULE, N_L, N_R, TABLE, TAP_SOURCE};
+use crate::names::{at, rated_amps, MODULE, N_L, N_R, TAP_SOURCE};
 use crate::outputs::{RANGE_ERROR, SECTION, SHORT, TAP, TRIPS, WRONG_CODE};
-use crate::sheet::{is_reversed, needed_readings};
-use crate::value;
+use crate::sheet::{is, is_reversed, needed_readings, said};
 
 /// Contacts that block everything.
 const COMMON: [u32; 7] =
@@ -62,11 +61,11 @@ impl Seen<'_> {
     }
 
     fn is(self, slot: usize, word: &str) -> bool {
-        value::text(&TABLE[slot], self.list[slot]) == word
+        is(self.list, slot, word)
     }
 
     fn said(self, slot: usize) -> String {
-        format!("{} = {}", TABLE[slot].name, value::text(&TABLE[slot], self.list[slot]))
+        said(self.list, slot)
     }
 
     fn no_section(self) -> Option<String> {

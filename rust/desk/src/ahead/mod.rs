@@ -11,10 +11,9 @@ use crate::cells::seconds_text;
 use crate::drive::Way;
 use crate::file::Errors;
 use crate::inputs::{is_on, AUTOMATIC};
-use crate::names::TABLE;
 use crate::outputs;
+use crate::sheet::said;
 use crate::unit::{Outlook, Unit};
-use crate::value;
 
 pub use causes::Seen;
 pub use drawn::{agrees, marks, shown_after};
@@ -99,11 +98,6 @@ fn reasons(unit: &Unit, asked: &Asked, look: &Outlook) -> Result<Vec<String>, Er
     Ok(reasons::reasons(&reasons::End { seen, first: unit, last: &look.unit, horizon: asked.horizon, delay }))
 }
 
-/// A setting, `T1 = 120 s`.
-fn setting(list: &[u32], slot: usize) -> String {
-    format!("{} = {}", TABLE[slot].name, value::text(&TABLE[slot], list[slot]))
-}
-
 /// `120 s`.
 fn time(ticks: u32) -> String {
     format!("{} s", seconds_text(ticks))
@@ -133,7 +127,7 @@ impl Asked<'_> {
     fn by(&self, by: By) -> String {
         match by {
             By::Delay { slot, elapsed } => {
-                let delay = slot.map_or(String::new(), |slot| format!(", after {}", setting(self.list, slot)));
+                let delay = slot.map_or(String::new(), |slot| format!(", after {}", said(self.list, slot)));
                 let before = if elapsed > 0 { format!(", of which {} had elapsed", time(elapsed)) } else { String::new() };
                 format!("automatic{delay}{before}")
             }

@@ -4,13 +4,12 @@
 use library::LONGEST_HORIZON;
 
 use super::causes::Seen;
-use super::setting;
 use crate::cells::seconds_text;
 use crate::drive::Way;
 use crate::inputs::{bit, is_on, CONTACTS, OUT, REMOTE, RESET, SWITCHING};
 use crate::names::at;
 use crate::outputs::{self, AUTOMATIC, AUTOMATIC_BLOCKED, FAULTS, HIGH, LOW};
-use crate::sheet::is_continuous;
+use crate::sheet::{is, is_continuous, said};
 use crate::unit::{Doing, Unit};
 
 /// The end of a look in which no command began.
@@ -49,18 +48,24 @@ impl End<'_> {
     /// Out of service by the sheet, or out by the key.
     fn out(&self) -> Vec<String> {
         let service =
-            (self.seen.list[at("XB1")] == 0).then(|| "the sheet has XB1 = off: the unit is out of service".to_string());
+            is(self.seen.list, at("XB1"), "off").then(|| "the sheet has XB1 = off: the unit is out of service".to_string());
         let key = self.contact(OUT).then(|| "the key out is on: the regulator is switched out".to_string());
         service.into_iter().chain(key).collect()
     }
 
+    /// A fault that comes in the look is a command or a move that does not come to its end.
     fn fault(&self) -> Option<String> {
         let field = FAULTS.into_iter().find(|field| self.is(*field))?;
         let name = outputs::short(field, is_continuous(self.seen.list));
+        let stays = match self.contact(SWITCHING) {
+            _ if is_continuous(self.seen.list) => "the voltage stays out of band",
+            true => "the switching contact stays closed",
+            false => "the switching contact stays open",
+        };
         let comes = match (self.contact(RESET), self.first.has_fault()) {
-            (true, _) => "comes in spite of reset",
-            (false, true) => "is latched until reset",
-            (false, false) => "comes within the horizon and is latched until reset",
+            (true, _) => "comes in spite of reset".to_string(),
+            (false, true) => "is latched until reset".to_string(),
+            (false, false) => format!("comes within the horizon, as {stays}, and is latched until reset"),
         };
         Some(format!("the fault '{name}' {comes}: everything is blocked"))
     }
@@ -123,7 +128,7 @@ impl End<'_> {
                 .is_free(way)
                 .then(|| format!("the timer of a {name} has not begun, as the drive came to rest on the last tick"));
         };
-        let delay = self.delay.map_or(String::new(), |slot| format!(" of {}", setting(self.seen.list, slot)));
+        let delay = self.delay.map_or(String::new(), |slot| format!(" of {}", said(self.seen.list, slot)));
         let then = match self.horizon < LONGEST_HORIZON {
             true => format!("give a longer --horizon, up to {} s", seconds_text(LONGEST_HORIZON)),
             false => "look ahead from a later time".to_string(),
