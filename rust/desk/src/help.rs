@@ -212,6 +212,6 @@ begins within the horizon, it says what keeps it from beginning, the decisive re
 
 A time is in seconds, `12.5` or `12.5 s`, or in ticks, `2500 ticks`.
 
-The look knows of the first command only: the drive does not answer in it, so what comes after the command is not told. The unit and
-the scenario stay as they are; the answer is that of the proved library. The exit status is 0 with a command and without one.
+The look reports the first command only: the drive does not answer in it, so what would follow the command is not known. The answer
+is that of the proved library. The exit status is 0 with a command and without one.
 ";

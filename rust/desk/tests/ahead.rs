@@ -310,7 +310,7 @@ fn the_delay_in_force_is_named_where_all_are_equal() {
         (120.0, AUTOMATIC, 1, Way::Lower, "T3"),
     ] {
         let (list, unit) = raised(continuous);
-        let brought = tick(volts, contacts | BREAKER | RESET * continuous);
+        let brought = tick(volts, contacts | BREAKER | (RESET * continuous));
         let Found::Begins(Begin { way: found, by: By::Delay { slot, .. }, .. }) = found(&list, &unit, brought) else {
             panic!("{volts} {continuous}: no automatic command");
         };

@@ -242,7 +242,8 @@ fn a_timer_that_runs_is_told_with_its_delay() {
     };
     let longer = "and the horizon ends before the delay: give a longer --horizon, up to 180 s";
     let told = format!("the timer of a raise has run for 0.75 s of T1 = 1 s, {longer}");
-    assert_eq!(running("T1 = 1 s\n", "97", "100 ticks"), [told]);
+    assert_eq!(running("T1 = 1 s\n", "97", "100 ticks"), [told.clone()]);
+    assert_eq!(running("T1 = 1 s\nXB11 = on\nU_set2 = 98 V\nT13 = 0.75 s\n", "97", "100 ticks"), [told], "a trip comes next");
     let told = format!("the timer of a lower has run for 0.255 s of T3 = 0.26 s, {longer}");
     assert_eq!(running("T3 = 0.26 s\n", "120", "1 ticks"), [told]);
 }
