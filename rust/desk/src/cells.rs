@@ -61,6 +61,15 @@ pub fn reading_text(sample: Sample) -> String {
     }
 }
 
+/// `98.2 held` in V is `98.2 V held`.
+pub fn with_unit(text: &str, unit: &str) -> String {
+    match text.strip_suffix(" held") {
+        Some(number) => format!("{number} {unit} held"),
+        None if text == "invalid" => text.to_string(),
+        None => format!("{text} {unit}"),
+    }
+}
+
 fn float_text(value: f32) -> String {
     let size = value.abs();
     match value {
@@ -140,6 +149,14 @@ pub fn ticks(text: &str) -> Result<u32, String> {
         Ok(ticks) if ticks <= LONGEST => Ok(ticks),
         _ if digits => Err(too_late(text)),
         _ => Err(format!("the time `{}` is no whole number of ticks", shown::text(text))),
+    }
+}
+
+/// A time on the command line as ticks: `12.5`, `12.5 s` or `2500 ticks`.
+pub fn time(text: &str) -> Result<u32, String> {
+    match text.strip_suffix("ticks") {
+        Some(number) => ticks(number.trim()),
+        None => seconds(text.strip_suffix('s').unwrap_or(text).trim()),
     }
 }
 

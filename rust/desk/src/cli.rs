@@ -26,52 +26,63 @@ struct Command {
     act: fn(&Words) -> Result<Said, Failure>,
 }
 
-const COMMANDS: [Command; 7] = [
+const COMMANDS: [Command; 8] = [
     Command {
         path: &["sheet", "check"],
         help: help::SHEET_CHECK,
-        takes: Takes { plain: 1, options: &["output"], needed: &[] },
+        takes: Takes { plain: 1, options: &["output"], ..Takes::NOTHING },
         act: commands::sheet::check,
     },
     Command {
         path: &["sheet", "show"],
         help: help::SHEET_SHOW,
-        takes: Takes { plain: 1, options: &[], needed: &[] },
+        takes: Takes { plain: 1, ..Takes::NOTHING },
         act: commands::sheet::show,
     },
     Command {
         path: &["sheet", "template"],
         help: help::SHEET_TEMPLATE,
-        takes: Takes { plain: 0, options: &["output", "module"], needed: &[] },
+        takes: Takes { options: &["output", "module"], ..Takes::NOTHING },
         act: commands::sheet::template,
     },
     Command {
         path: &["sheet", "diff"],
         help: help::SHEET_DIFF,
-        takes: Takes { plain: 2, options: &[], needed: &[] },
+        takes: Takes { plain: 2, ..Takes::NOTHING },
         act: commands::sheet::diff,
     },
     Command {
         path: &["scenario", "write"],
         help: help::SCENARIO_WRITE,
-        takes: Takes { plain: 1, options: &["output", "sheet"], needed: &[&["output"]] },
+        takes: Takes { plain: 1, options: &["output", "sheet"], needed: &[&["output"]], ..Takes::NOTHING },
         act: commands::scenario::write_recording,
     },
     Command {
         path: &["scenario", "show"],
         help: help::SCENARIO_SHOW,
-        takes: Takes { plain: 1, options: &[], needed: &[] },
+        takes: Takes { plain: 1, ..Takes::NOTHING },
         act: commands::scenario::show_recording,
     },
     Command {
         path: &["run"],
         help: help::RUN,
         takes: Takes {
-            plain: 0,
             options: &["sheet", "scenario", "recording", "table", "format", "only", "svg", "title", "from", "to"],
             needed: &[&["sheet"], &["scenario", "recording"]],
+            ..Takes::NOTHING
         },
         act: commands::run::run,
+    },
+    Command {
+        path: &["ahead"],
+        help: help::AHEAD,
+        takes: Takes {
+            options: &["sheet", "scenario", "recording", "at", "horizon", "svg", "title", "from", "to"],
+            needed: &[&["sheet"], &["scenario", "recording"], &["at"]],
+            flags: &["automatic"],
+            ..Takes::NOTHING
+        },
+        act: commands::ahead::ahead,
     },
 ];
 

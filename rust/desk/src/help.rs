@@ -10,6 +10,7 @@ usage: avr sheet check FILE [-o SHEET]
        avr scenario write FILE -o RECORDING [--sheet FILE]
        avr scenario show RECORDING
        avr run --sheet FILE (--scenario FILE | --recording FILE) [--table FILE] [--svg FILE] [more]
+       avr ahead --sheet FILE (--scenario FILE | --recording FILE) --at TIME [--automatic] [--horizon TIME] [--svg FILE] [more]
 
   sheet check     say whether a sheet in text is taken, and why not; write the binary SHEET
   sheet show      turn a SHEET back into text
@@ -18,6 +19,7 @@ usage: avr sheet check FILE [-o SHEET]
   scenario write  turn a CSV scenario into a binary RECORDING
   scenario show   turn a RECORDING back into CSV
   run             run the unit: a table of what changed, and a picture
+  ahead           look ahead from a time: when would the first command begin if nothing changed, and if none, why
 
 `avr SUBCOMMAND --help` says more, and docs/MANUAL.md what the settings do. `-` in place of a file is standard input or output.
 A run has at most 100000 s, 20000000 ticks; of a sheet at most 1 MiB is read, of a scenario 256 MiB.
@@ -159,7 +161,7 @@ The number of an Invalid reading is not kept. A RECORDING is read twice, so that
 
 pub const RUN: &str = "\
 usage: avr run --sheet FILE (--scenario FILE | --recording FILE) [--table FILE] [--format FORM] [--only SIDE]
-               [--svg FILE] [--title TEXT] [--from SECONDS] [--to SECONDS]
+               [--svg FILE] [--title TEXT] [--from TIME] [--to TIME]
 
 Runs the unit with the sheet (text or SHEET) over a scenario (CSV) or a RECORDING.
 
@@ -168,9 +170,11 @@ Runs the unit with the sheet (text or SHEET) over a scenario (CSV) or a RECORDIN
   --only SIDE     tell inputs alone, or outputs with what the unit remembers, or all (all)
   --svg FILE      write the picture there
   --title TEXT    the picture's title; else the name of the scenario's file
-  --from SECONDS  table and picture begin there, the table with what stands then, at the times when it began; the unit is run
+  --from TIME     table and picture begin there, the table with what stands then, at the times when it began; the unit is run
                   from the beginning all the same (0)
-  --to SECONDS    and end there (the end)
+  --to TIME       and end there (the end)
+
+A time is in seconds, `12.5` or `12.5 s`, or in ticks, `2500 ticks`.
 
 Tick n is told at n times 0.005 s. What a row brings at 10 s is seen first on the tick after, at 10.005 s; a delay of 20 s that
 begins there ends at 30 s. Readings of a recording are not told in the table, but for those that are missing to the unit.
@@ -184,4 +188,30 @@ error.
 
 The table tells pairs by their parts, the picture by their magnitudes, |U_AB|, and by the degrees that a current is ahead of U_AB.
 A remark on standard error says where the sheet looks at something that no column gives, or is out of service.
+";
+
+pub const AHEAD: &str = "\
+usage: avr ahead --sheet FILE (--scenario FILE | --recording FILE) --at TIME [--automatic] [--horizon TIME]
+                 [--svg FILE] [--title TEXT] [--from TIME] [--to TIME]
+
+Looks ahead from a time of a scenario (CSV) or a RECORDING: it is now TIME, and if what the unit reads now stayed as it is, when
+would the first command begin, and which way?
+
+The unit is run up to and including the tick at TIME. What that tick brings is taken to repeat: readings, contacts and buttons, the
+tap and the drive's contact too. Tick 1 of the look is the tick after it. The answer is on standard output: the way of the command,
+its tick, how much later that is, at which time of the scenario, whether it is automatic, by which delay, or manual. Where no command
+begins within the horizon, it says what keeps it from beginning, the decisive reason first.
+
+  --at TIME       from when; what a row brings at TIME itself is seen first on the tick after, so ask 0.005 s later for that
+  --automatic     as if automatic were switched on at TIME, and all else stayed as it is
+  --horizon TIME  how far to look, from 0.005 to 180 s, 1 to 36000 ticks (180 s)
+  --svg FILE      write the picture of the run up to TIME and of the look there, with a mark where the command begins
+  --title TEXT    the picture's title; else the name of the scenario's file
+  --from TIME     the picture begins there (0)
+  --to TIME       and ends there (shortly after the command, or at the horizon)
+
+A time is in seconds, `12.5` or `12.5 s`, or in ticks, `2500 ticks`.
+
+The look reports the first command only: the drive does not answer in it, so what would follow the command is not known. The answer
+is that of the proved library. The exit status is 0 with a command and without one.
 ";

@@ -39,6 +39,8 @@ pub const fn reading_at(name: &str) -> usize {
 }
 
 pub const U_AB: usize = reading_at("U_AB");
+pub const I_BUS: usize = reading_at("I_bus");
+pub const I_COUPLER: usize = reading_at("I_coupler");
 
 /// How many readings come before the parts of pairs.
 pub const SCALARS: usize = reading_at("U_AB_re");
@@ -71,13 +73,16 @@ pub struct Contact {
     pub off: &'static str,
 }
 
+pub const BREAKER: u32 = bit("breaker");
 pub const SWITCHING: u32 = bit("switching");
 pub const SUPPLY_OFF: u32 = bit("supply_off");
 pub const END_UP: u32 = bit("end_up");
 pub const END_DOWN: u32 = bit("end_down");
 pub const RESET: u32 = bit("reset");
 pub const OUT: u32 = bit("out");
+pub const AUTOMATIC: u32 = bit("automatic");
 pub const U_SUPP2: u32 = bit("U_supp2");
+pub const REMOTE: u32 = bit("remote");
 
 /// By bit; the unit ignores those after `remote_lower`. `local` is local drive, and `remote` off is local mode.
 pub const CONTACTS: [Contact; 32] = [
@@ -116,7 +121,7 @@ pub const CONTACTS: [Contact; 32] = [
 ];
 
 /// The bit of a contact, found while the tool is compiled.
-const fn bit(name: &str) -> u32 {
+pub const fn bit(name: &str) -> u32 {
     let mut bit = 0;
     while !same(CONTACTS[bit].name, name) {
         bit += 1;

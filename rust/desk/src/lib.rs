@@ -3,6 +3,7 @@
 #![forbid(unsafe_code)]
 
 pub mod advice;
+pub mod ahead;
 pub mod band;
 pub mod bars;
 pub mod boxes;
@@ -22,6 +23,7 @@ pub mod inputs;
 pub mod json;
 pub mod lanes;
 pub mod limits;
+pub mod marks;
 pub mod missing;
 pub mod motor;
 pub mod names;

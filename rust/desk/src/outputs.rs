@@ -8,13 +8,18 @@ use crate::same::same;
 
 pub const RAISE: usize = at("raise");
 pub const LOWER: usize = at("lower");
+pub const SECTION: usize = at("section");
 pub const TAP: usize = at("tap");
 pub const WRONG_CODE: usize = at("wrong BCD code");
 pub const RANGE_ERROR: usize = at("tap range error");
 /// The first of the organs' trips.
 pub const TRIPS: usize = at("I_high over I_set1");
 /// From the first block to the last.
-pub const BLOCKS: RangeInclusive<usize> = at("automatic blocked")..=at("lower blocked");
+pub const BLOCKS: RangeInclusive<usize> = AUTOMATIC_BLOCKED..=LOWER_BLOCKED;
+pub const AUTOMATIC_BLOCKED: usize = at("automatic blocked");
+pub const MANUAL_BLOCKED: usize = at("manual blocked");
+pub const RAISE_BLOCKED: usize = at("raise blocked");
+pub const LOWER_BLOCKED: usize = at("lower blocked");
 pub const LOW: usize = at("low");
 pub const HIGH: usize = at("high");
 /// From the first fault to the last.
@@ -24,6 +29,7 @@ pub const SUPPLY_TRIP: usize = at("supply trip");
 pub const BUSY: usize = at("drive busy");
 pub const OPERATIONS: usize = at("operations");
 pub const WORN: usize = at("worn: N_max reached");
+pub const AUTOMATIC: usize = at("automatic");
 
 /// The field of a short name, found while the tool is compiled.
 pub const fn at(name: &str) -> usize {

@@ -7,9 +7,10 @@ use crate::clock::{Clock, MARK_SIZE};
 use crate::head::Head;
 use crate::lanes::{self, Group};
 use crate::limits;
+use crate::marks::{self, Mark};
 use crate::names::{rated_amps, COMPENSATION, MODULE, TABLE};
 use crate::panel::{self, Label, Series, LABEL_ROW};
-use crate::run::History;
+use crate::run::{History, Window};
 use crate::scale::{mark_text, TimeScale, ValueScale};
 use crate::seen::Seen;
 use crate::series::{Brought, Panel};
@@ -48,10 +49,20 @@ impl<'a> View<'a> {
     pub fn whole(title: &'a str, ticks: u32) -> View<'a> {
         View { title, from: 0, to: ticks }
     }
+
+    /// What a window shows of a run of so many ticks, one of them at least.
+    pub fn of(title: &'a str, window: Window, ticks: u32) -> View<'a> {
+        View { title, from: window.from, to: window.to.max(window.from + 1).min(ticks) }
+    }
 }
 
 /// The SVG of a run on the sheet `list`.
 pub fn picture(history: &History, list: &[u32], view: View) -> String {
+    marked(history, list, view, &[])
+}
+
+/// The same with marks, where they lie in the view.
+pub fn marked(history: &History, list: &[u32], view: View, marks: &[Mark]) -> String {
     let View { title, from, to } = view;
     let seen = &Seen::new(history, from, to);
     let clock = Clock::new(history.ticks, to - from);
@@ -59,9 +70,11 @@ pub fn picture(history: &History, list: &[u32], view: View) -> String {
     let mut svg = Svg::new();
     let top = Head { title, list, ticks: history.ticks, width: WIDTH }.draw(&mut svg, time);
     let mut picture = Picture { svg, seen, list, time, y: top, is_striped: false };
+    picture.words(marks);
+    let panels = picture.y;
     picture.panels(Brought { seen, rated: rated_amps(list[MODULE]) });
     picture.lanes();
-    picture.axis(top);
+    picture.lines(marks, top, panels);
     picture.svg.document(WIDTH, picture.y, title, description(list))
 }
 
@@ -162,6 +175,32 @@ impl Picture<'_> {
             triangle(&mut self.svg, self.time.at(tick), (self.y - LANE - 4.0, self.y - LANE + 3.0), VERMILLION);
         }
         self.y += GAP;
+    }
+
+    /// The marks whose lines lie in the view.
+    fn seen<'m>(&self, marks: &'m [Mark]) -> Vec<&'m Mark> {
+        marks.iter().filter(|mark| mark.is_seen(self.time)).collect()
+    }
+
+    /// The words of marks, a row each.
+    fn words(&mut self, marks: &[Mark]) {
+        for mark in self.seen(marks) {
+            mark.words(&mut self.svg, self.time, WIDTH, self.y);
+            self.y += marks::ROW;
+        }
+        self.y += if marks.is_empty() { 0.0 } else { marks::BELOW };
+    }
+
+    /// The axis; below all else the shades of marks from the panels' top on, and their lines from their words on.
+    fn lines(&mut self, marks: &[Mark], words: f64, panels: f64) {
+        let (mut shades, mut lines, bottom) = (Svg::new(), Svg::new(), self.y);
+        marks.iter().for_each(|mark| mark.shade(&mut shades, self.time, (panels, bottom)));
+        for (at, mark) in self.seen(marks).into_iter().enumerate() {
+            mark.line(&mut lines, self.time, (words + at as f64 * marks::ROW, bottom));
+        }
+        self.svg.over(lines);
+        self.axis(panels);
+        self.svg.over(shades);
     }
 
     /// The axis, and below all else a line for each of its marks, from the panels' top on.

@@ -2,9 +2,9 @@
 
 use crate::columns::{self, Column};
 use crate::inputs::{reading_at, Pair, PAIRS, READINGS, U_AB, U_AB_PAIR};
-use crate::names::{at, COMPENSATION, COMPENSATION_CURRENT, TABLE, TAP_SOURCE};
+use crate::names::{at, COMPENSATION_CURRENT, TABLE, TAP_SOURCE};
 use crate::scenario::Scenario;
-use crate::sheet::{needed_pairs, BY_U_COMP};
+use crate::sheet::{needed_currents, needed_pairs};
 use crate::value;
 
 /// What watches which reading.
@@ -49,13 +49,9 @@ fn readings(list: &[u32]) -> Vec<(String, usize)> {
 }
 
 /// The currents of a compensation by U_comp.
-fn of_compensation(list: &[u32]) -> Vec<(String, usize)> {
-    if list[COMPENSATION] != BY_U_COMP {
-        return Vec::new();
-    }
+fn of_compensation(list: &[u32]) -> impl Iterator<Item = (String, usize)> {
     let current = value::text(&TABLE[COMPENSATION_CURRENT], list[COMPENSATION_CURRENT]);
-    let named = [("bus", "I_bus"), ("coupler", "I_coupler")].into_iter().filter(|(word, _)| current.contains(word));
-    named.map(|(_, reading)| (format!("XB4 = U_comp with XB5 = {current}"), reading_at(reading))).collect()
+    needed_currents(list).iter().map(move |reading| (format!("XB4 = U_comp with XB5 = {current}"), *reading))
 }
 
 fn without_voltage(scenario: &Scenario) -> Option<String> {

@@ -53,27 +53,52 @@ pub fn history(unit: Unit, source: Source) -> Result<History, Errors> {
 
 /// Runs all ticks of a source; `each` sees what every tick brings.
 pub fn run(
-    mut unit: Unit,
-    mut source: Source,
+    unit: Unit,
+    source: Source,
     window: Window,
     progress: &mut Progress,
-    mut each: impl FnMut(&Brought) -> Result<(), Errors>,
+    each: impl FnMut(&Brought) -> Result<(), Errors>,
 ) -> Result<History, Errors> {
-    let of = source.ticks();
-    let mut thins = (!source.is_scenario()).then(|| [Thin::default(); READINGS]);
-    let mut history = History::default();
-    let mut outputs = [0; FIELDS];
-    while let Some(brought) = source.bring(history.ticks + 1, &outputs)? {
-        history.ticks += 1;
-        each(&brought)?;
-        let refused = |number| vec![format!("tick {} is refused (refusal {number})", history.ticks)];
-        outputs = unit.tick(&brought).map_err(refused)?;
-        history.note(&brought, &unit, &outputs);
-        thins.iter_mut().for_each(|thins| history.thin(thins, unit.rated, window));
-        progress.tick(history.ticks, of);
+    let mut course = Course::new(unit);
+    course.go_on(source, window, progress, each)?;
+    Ok(course.history)
+}
+
+/// A unit that runs, and what happened so far.
+pub struct Course {
+    pub unit: Unit,
+    pub history: History,
+}
+
+impl Course {
+    pub fn new(unit: Unit) -> Course {
+        Course { unit, history: History::default() }
     }
-    progress.end();
-    Ok(history)
+
+    /// Runs all ticks of a source after those that it has run.
+    pub fn go_on(
+        &mut self,
+        mut source: Source,
+        window: Window,
+        progress: &mut Progress,
+        mut each: impl FnMut(&Brought) -> Result<(), Errors>,
+    ) -> Result<(), Errors> {
+        let Course { unit, history } = self;
+        let of = source.ticks().map(|ticks| history.ticks + ticks);
+        let mut thins = (!source.is_scenario()).then(|| [Thin::default(); READINGS]);
+        let mut outputs = [0; FIELDS];
+        while let Some(brought) = source.bring(history.ticks + 1, &outputs)? {
+            history.ticks += 1;
+            each(&brought)?;
+            let refused = |number| vec![format!("tick {} is refused (refusal {number})", history.ticks)];
+            outputs = unit.tick(&brought).map_err(refused)?;
+            history.note(&brought, unit, &outputs);
+            thins.iter_mut().for_each(|thins| history.thin(thins, unit.rated, window));
+            progress.tick(history.ticks, of);
+        }
+        progress.end();
+        Ok(())
+    }
 }
 
 impl History {
@@ -101,6 +126,11 @@ impl History {
     /// What a reading was on a tick.
     pub fn reading(&self, at: usize, tick: u32) -> Sample {
         standing(&self.readings[at], tick).unwrap_or_default()
+    }
+
+    /// An output of a tick; each is 0 before the first.
+    pub fn output(&self, field: usize, tick: u32) -> u32 {
+        standing(&self.outputs[field], tick).unwrap_or_default()
     }
 
     /// Whether a contact was on on a tick; none was before the first.

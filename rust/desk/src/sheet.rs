@@ -3,7 +3,7 @@
 use library::SLOTS;
 
 use crate::file::{Errors, File, UTF16};
-use crate::inputs::{I_BUS_PAIR, I_COUPLER_PAIR, U_AB_PAIR};
+use crate::inputs::{I_BUS, I_BUS_PAIR, I_COUPLER, I_COUPLER_PAIR, PAIRS, U_AB, U_AB_PAIR};
 use crate::names::{
     self, ABSENT, COMPENSATION, COMPENSATION_CURRENT, CONTINUOUS, D_U, MODULE, N_L, N_POS, N_R, TABLE, TAP_SOURCE,
 };
@@ -266,6 +266,16 @@ fn nothing_to_count(list: &[u32]) -> String {
     format!("no contact tells of a move, so XB6 = {source} has nothing to count; choose XB6 off, BCD or sensor, or XB2 impulse")
 }
 
+/// A setting, `T4 = 15 s`.
+pub fn said(list: &[u32], slot: usize) -> String {
+    format!("{} = {}", TABLE[slot].name, value::text(&TABLE[slot], list[slot]))
+}
+
+/// Whether a slot has a word.
+pub fn is(list: &[u32], slot: usize, word: &str) -> bool {
+    value::text(&TABLE[slot], list[slot]) == word
+}
+
 /// Whether the sheet is for a drive without a switching contact.
 pub fn is_continuous(list: &[u32]) -> bool {
     list[CONTINUOUS] == 1
@@ -290,6 +300,24 @@ pub fn needed_pairs(list: &[u32]) -> &'static [usize] {
         (ALONG_RX, 1) => &[U_AB_PAIR, I_COUPLER_PAIR],
         (ALONG_RX, _) => &[U_AB_PAIR, I_BUS_PAIR, I_COUPLER_PAIR],
         _ => &[],
+    }
+}
+
+/// The currents of a compensation by U_comp.
+pub fn needed_currents(list: &[u32]) -> &'static [usize] {
+    match (list[COMPENSATION], list[COMPENSATION_CURRENT]) {
+        (BY_U_COMP, 0) => &[I_BUS],
+        (BY_U_COMP, 1) => &[I_COUPLER],
+        (BY_U_COMP, _) => &[I_BUS, I_COUPLER],
+        _ => &[],
+    }
+}
+
+/// The readings without which a unit with this sheet has no voltage to judge, parts of pairs among them.
+pub fn needed_readings(list: &[u32]) -> Vec<usize> {
+    match list[COMPENSATION] {
+        ALONG_RX => needed_pairs(list).iter().flat_map(|pair| PAIRS[*pair].parts).collect(),
+        _ => [U_AB].iter().chain(needed_currents(list)).copied().collect(),
     }
 }
 

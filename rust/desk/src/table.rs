@@ -153,19 +153,10 @@ fn reading_changes(history: &History, rated: u32, changes: &mut Vec<Change>) {
                 let value = cells::reading_text(*sample);
                 let why = missing::why(at, *sample, rated).filter(|why| *why != missing::Why::Invalid);
                 let note = why.map_or(String::new(), |why| format!(", missing: {}", missing::words(why, at, rated)));
-                let words = format!("{} {}{note}", reading.name, with_unit(&value, reading.unit));
+                let words = format!("{} {}{note}", reading.name, cells::with_unit(&value, reading.unit));
                 changes.push(Change { tick: *tick, side: "in", name: reading.name, value, words });
             }
         }
-    }
-}
-
-/// `98.2 held` in V is `98.2 V held`.
-fn with_unit(text: &str, unit: &str) -> String {
-    match text.strip_suffix(" held") {
-        Some(number) => format!("{number} {unit} held"),
-        None if text == "invalid" => text.to_string(),
-        None => format!("{text} {unit}"),
     }
 }
 

@@ -2,19 +2,26 @@
 
 use crate::shown;
 
-/// What a subcommand takes: how many plain words, which options, and those of which one must be given.
+/// What a subcommand takes: how many plain words, which options with a value, those of which one must be given, and which options
+/// without a value.
 pub struct Takes {
     pub plain: usize,
     pub options: &'static [&'static str],
     pub needed: &'static [&'static [&'static str]],
+    pub flags: &'static [&'static str],
 }
 
-/// Plain words, and options with their values.
+impl Takes {
+    pub const NOTHING: Takes = Takes { plain: 0, options: &[], needed: &[], flags: &[] };
+}
+
+/// Plain words, options with their values, and options without one.
 #[derive(Debug, Default, PartialEq)]
 pub struct Words {
     pub plain: Vec<String>,
     pub help: bool,
     options: Vec<(String, String)>,
+    flags: Vec<String>,
 }
 
 impl Words {
@@ -25,6 +32,11 @@ impl Words {
     /// An option that the command line must have; `parse` has seen to it.
     pub fn needed(&self, name: &str) -> &str {
         self.option(name).unwrap_or_default()
+    }
+
+    /// Whether an option without a value is given.
+    pub fn flag(&self, name: &str) -> bool {
+        self.flags.iter().any(|known| known == name)
     }
 
     /// What the word of an option means, of those that it takes; the first one where it is not given.
@@ -44,6 +56,14 @@ impl Words {
         }
         let value = value.ok_or_else(|| format!("--{name} has no value"))?;
         self.options.push((name.to_string(), value));
+        Ok(())
+    }
+
+    fn take_flag(&mut self, name: &str) -> Result<(), String> {
+        if self.flag(name) {
+            return Err(format!("--{name} is given twice"));
+        }
+        self.flags.push(name.to_string());
         Ok(())
     }
 
@@ -77,6 +97,8 @@ pub fn parse(takes: &Takes, words: &[String]) -> Result<Words, String> {
             "--" => parsed.plain.extend(rest.by_ref().cloned()),
             "-o" => parsed.take_option(takes, "output", value_of(&mut rest))?,
             long if long.starts_with("--") => match long[2..].split_once('=') {
+                Some((name, _)) if takes.flags.contains(&name) => return Err(format!("--{name} takes no value")),
+                None if takes.flags.contains(&&long[2..]) => parsed.take_flag(&long[2..])?,
                 Some((name, value)) => parsed.take_option(takes, name, Some(value.to_string()))?,
                 None => parsed.take_option(takes, &long[2..], value_of(&mut rest))?,
             },

@@ -30,6 +30,7 @@ fn help_is_there_for_each_subcommand() {
         vec!["scenario", "write", "--help"],
         vec!["scenario", "show", "--help"],
         vec!["run", "--help"],
+        vec!["ahead", "--help"],
         vec!["help", "run"],
         vec!["--help", "sheet", "check"],
     ] {
@@ -182,6 +183,8 @@ fn a_wrong_command_line_is_status_2() {
         vec!["run", "--sheet", "a"],
         vec!["run", "--sheet", "a", "--scenario", "b", "--recording", "c"],
         vec!["run", "a", "--sheet", "a", "--scenario", "b"],
+        vec!["ahead", "--sheet", "a", "--scenario", "b"],
+        vec!["ahead", "--sheet", "a", "--at", "1"],
     ] {
         let output = avr(&words);
         assert_eq!(output.status.code(), Some(2), "{words:?}");

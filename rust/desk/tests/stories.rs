@@ -1,4 +1,4 @@
-//! The examples: each table and picture is the stored one, and no text lies on another.
+//! The examples: each table, picture and look ahead is the stored one, and no text lies on another.
 
 mod common;
 
@@ -6,9 +6,10 @@ use std::fs;
 
 use common::{avr, between, check_texts, err, examples, out, Folder};
 
-const STORIES: [&str; 19] = [
+const STORIES: [&str; 20] = [
     "acceleration",
     "band-edge",
+    "before-automatic",
     "breaker-rating",
     "compensation",
     "continuous-in-band",
@@ -62,6 +63,31 @@ fn each_story_is_as_stored() {
     }
 }
 
+/// What `avr ahead` prints for each line of looks.txt, below the command line, and the picture that one of them names.
+#[test]
+fn each_look_ahead_is_as_stored() {
+    let folder = Folder::new("stories-ahead");
+    let mut pictures = 0;
+    for story in STORIES.into_iter().filter(|story| examples().join(story).join("looks.txt").is_file()) {
+        let (sheet, scenario, svg) = (path(story, "sheet.txt"), path(story, "scenario.csv"), folder.path("ahead.svg"));
+        let title = between(&read(story, "ahead.svg"), "<title>", "</title>").to_string();
+        let mut told = String::new();
+        for line in read(story, "looks.txt").lines() {
+            let mut words = vec!["ahead", "--sheet", &sheet, "--scenario", &scenario];
+            words.extend(line.split_whitespace().map(|word| if word == "ahead.svg" { &svg } else { word }));
+            words.extend(if line.contains("--svg") { vec!["--title", &title] } else { vec![] });
+            let output = avr(&words);
+            assert!(output.status.success(), "{story}: {}", err(&output));
+            told += &format!("$ avr ahead --sheet sheet.txt --scenario scenario.csv {line}\n{}", out(&output));
+        }
+        assert_eq!(told, read(story, "ahead.txt"), "{story}");
+        assert_eq!(fs::read_to_string(&svg).expect("a picture"), read(story, "ahead.svg"), "{story}");
+        check_texts(story, &read(story, "ahead.svg"));
+        pictures += 1;
+    }
+    assert!(pictures > 0);
+}
+
 /// The load that the unit answers with these ratings is too small with equal ones.
 #[test]
 fn the_ratings_decide_whether_the_unit_raises() {
@@ -91,6 +117,10 @@ fn each_story_is_told() {
         ("panel-and-dispatcher", vec![PANEL_ACTS, DISPATCHER_ACTS, DISPATCHERS_LOWER, MADE_LOCAL]),
         ("organ-blocks", vec!["TRIP: I_bus over I_set2", "out  automatic blocked", "out  automatic free"]),
         ("band-edge", vec!["U_AB 100.0994 V\n     40.005", "U_AB 100.1 V\n                        out  voltage high"]),
+        (
+            "before-automatic",
+            vec!["50.000      10000  out  RAISE", "64.500      12900  out  RAISE", "104.000      20800  out  LOWER"],
+        ),
         ("compensation", vec!["I_bus 0.4 A\n                        out  voltage low"]),
         ("breaker-rating", vec!["I_bus 0.5 A\n                        out  voltage low", "20.000       4000  out  RAISE"]),
         ("long-feeder", vec!["20.000       4000  out  RAISE command", "50.000      10000  out  RAISE command", TURNED]),
@@ -303,8 +333,9 @@ fn pictures_use_the_palette_only() {
         "#000000", "#E69F00", "#56B4E9", "#009E73", "#F0E442", "#0072B2", "#D55E00", "#CC79A7", "#222222", "#D8D8D8",
         "#666666", "#FFFFFF", "#ECECEC",
     ];
-    for story in STORIES {
-        for part in read(story, "picture.svg").split('"').filter(|part| part.starts_with('#')) {
+    let look = read("before-automatic", "ahead.svg");
+    for (story, text) in STORIES.map(|story| (story, read(story, "picture.svg"))).into_iter().chain([("ahead", look)]) {
+        for part in text.split('"').filter(|part| part.starts_with('#')) {
             assert!(known.contains(&part), "{story}: {part}");
         }
     }

@@ -5,8 +5,8 @@ mod bands;
 mod drive;
 mod watching;
 
-use crate::names::{at, TABLE};
-use crate::value;
+use crate::names::at;
+use crate::sheet::{is, said};
 
 /// What is odd, what the unit does with it, and what to do: words to follow the setting at `slot` and its value.
 #[derive(Clone, Debug, PartialEq)]
@@ -50,16 +50,6 @@ fn when(odd: bool, slot: usize, words: impl FnOnce() -> String) -> Vec<Advice> {
         true => vec![Advice { slot, words: words() }],
         false => Vec::new(),
     }
-}
-
-/// Whether a slot has a word.
-fn is(list: &[u32], slot: usize, word: &str) -> bool {
-    value::text(&TABLE[slot], list[slot]) == word
-}
-
-/// A setting, `T4 = 15 s`.
-fn said(list: &[u32], slot: usize) -> String {
-    format!("{} = {}", TABLE[slot].name, value::text(&TABLE[slot], list[slot]))
 }
 
 /// What a trip does to automatic, by the slot that says it.

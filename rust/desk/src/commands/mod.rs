@@ -1,8 +1,10 @@
 //! What each subcommand does. All is made before anything is written, but for what is too long for that.
 
+pub mod ahead;
 pub mod run;
 pub mod scenario;
 pub mod sheet;
+mod source;
 
 use crate::ends;
 use crate::file::{Errors, File, STANDARD};

@@ -1,7 +1,7 @@
 //! `avr run`.
 
+use super::source::{self, reaches};
 use super::{check_drive, read_once, remarks, started, Failure, Said};
-use crate::cells;
 use crate::file::{Errors, File, SCENARIO_MOST, SHEET_MOST, STANDARD};
 use crate::picture::{self, View};
 use crate::play::{Player, Source};
@@ -16,7 +16,7 @@ use crate::target::{targets, Target};
 use crate::words::Words;
 
 pub fn run(words: &Words) -> Result<Said, Failure> {
-    let (sheet_name, (name, is_recording)) = (words.needed("sheet"), source_name(words));
+    let (sheet_name, (name, is_recording)) = (words.needed("sheet"), source::name(words));
     let wanted = wanted(words, !is_recording)?;
     let [table, svg] = outputs(words, &[sheet_name, name])?;
     let sheet = sheet::read(&File::read(sheet_name, SHEET_MOST)?)?;
@@ -25,11 +25,10 @@ pub fn run(words: &Words) -> Result<Said, Failure> {
         true => replayed(&sheet, name, wanted.window)?,
         false => played(&sheet, name, wanted.window, &mut said.notes)?,
     };
-    let title = words.option("title").unwrap_or_else(|| last_part(name));
+    let title = source::title(words, name);
     tell(&mut said, &history, &sheet, wanted, table);
     if let Some(target) = svg {
-        let view =
-            View { title, from: wanted.window.from, to: wanted.window.to.max(wanted.window.from + 1).min(history.ticks) };
+        let view = View::of(title, wanted.window, history.ticks);
         said.put("picture", target, picture::picture(&history, &sheet.list, view).into_bytes());
     }
     Ok(said)
@@ -39,20 +38,7 @@ pub fn run(words: &Words) -> Result<Said, Failure> {
 fn wanted(words: &Words, readings: bool) -> Result<Wanted, Failure> {
     let form = words.choice("format", &FORMS).map_err(Failure::Usage)?;
     let only = words.choice("only", &SIDES).map_err(Failure::Usage)?;
-    Ok(Wanted { form, only, readings, window: window(words)? })
-}
-
-fn window(words: &Words) -> Result<Window, Failure> {
-    let time = |option: &str, default: u32| match words.option(option) {
-        Some(text) => cells::seconds(text).map_err(|words| Failure::Usage(format!("--{option}: {words}"))),
-        None => Ok(default),
-    };
-    let window = Window { from: time("from", Window::WHOLE.from)?, to: time("to", Window::WHOLE.to)? };
-    match window.to {
-        0 => Err(Failure::Usage("--to is before the first tick, at 0.005 s".to_string())),
-        to if window.from > to => Err(Failure::Usage("--from is after --to".to_string())),
-        _ => Ok(window),
-    }
+    Ok(Wanted { form, only, readings, window: source::window(words, Window::WHOLE)? })
 }
 
 /// Where the table and the picture go, looked at before the run.
@@ -63,24 +49,10 @@ fn outputs(words: &Words, inputs: &[&str]) -> Result<[Option<Target>; 2], Failur
         let words = "table and picture would both be on standard output: give --table FILE or --svg FILE";
         return Err(Failure::Usage(words.to_string()));
     }
-    if svg.is_none() && words.option("title").is_some() {
-        return Err(Failure::Usage("--title is a picture's: give --svg FILE too".to_string()));
-    }
+    source::needs_picture(words, &["title"])?;
     let paths: Vec<&str> = [table].into_iter().chain(svg).collect();
     let mut targets = targets(&paths, inputs)?.into_iter();
     Ok([targets.next(), targets.next()])
-}
-
-/// The scenario or the recording, and whether it is the latter.
-fn source_name(words: &Words) -> (&str, bool) {
-    match words.option("recording") {
-        Some(name) => (name, true),
-        None => (words.needed("scenario"), false),
-    }
-}
-
-fn last_part(name: &str) -> &str {
-    name.rsplit('/').next().unwrap_or(name)
 }
 
 /// The table, and the summary beside it unless standard output has that already.
@@ -111,12 +83,4 @@ fn looked_at(sheet: &Sheet, source: Source, window: Window) -> Result<History, E
     let history = run::run(started(sheet)?, source, window, &mut Progress::usual(), |_| Ok(()))?;
     reaches(history.ticks, window)?;
     Ok(history)
-}
-
-fn reaches(ticks: u32, window: Window) -> Result<(), Errors> {
-    let (from, end) = (cells::seconds_text(window.from), cells::seconds_text(ticks));
-    match window.from < ticks {
-        true => Ok(()),
-        false => Err(vec![format!("--from {from} is not before the end of the run, {end} s")]),
-    }
 }
