@@ -180,7 +180,7 @@ enum avr_answer {
     AVR_REFUSED_LENGTH = 1,    /* a list that has not AVR_SLOTS numbers */
     AVR_REFUSED_RANGE = 2,     /* a slot out of its range */
     AVR_REFUSED_TAP_ORDER = 3, /* N_R not above N_L, or N_pos outside them */
-    AVR_REFUSED_IMAGE = 4,     /* a tick of, or a look ahead from, an image that is no record's, or of a record outside its limits */
+    AVR_REFUSED_IMAGE = 4,     /* a tick or a look ahead, of an image that is no record's or of a record outside its limits */
     AVR_REFUSED_COUNTED = 5,   /* continuous regulation, and a counted tap: no contact tells of a move */
     AVR_REFUSED_HORIZON = 6    /* a look ahead of no tick, or of more than AVR_LONGEST_HORIZON */
 };
