@@ -2,7 +2,7 @@
 -- Assumes nothing.
 use Prim.Native.Nat.{ℕ, zero, suc, _+_}
 use native.Mathlib.Omega.{arith}
-use mathlib.Core.Path.{_≡_, refl, sym, ap, _∙_}
+use mathlib.Core.Path.{_≡_, refl, sym, ap, _∙_, subst}
 use mathlib.Core.Bool.{true, false}
 use mathlib.Core.List.{List, _∷_, _++_}
 use mathlib.Core.Logic.{_⊎_, inl, inr, ⊎-elim}
@@ -17,12 +17,10 @@ use Rattle.record.specs.declared.Regulator.{Regulator}
 use Rattle.record_limits.specs.Limits.{withinOf}
 use Rattle.claim.specs.Claim.{Tick, Begins, modeField, blockField}
 use Rattle.claim.specs.Runs.{At}
-use Rattle.claim.proofs.Runs.{length-run}
-use Rattle.rules.specs.Lists.{leftBy, seenOn}
+use Rattle.rules.specs.Lists.{leftBy, seenOn, startsOn}
 use Rattle.rules.proofs.Steps.{Linked, within-kept}
-use Rattle.rules.proofs.Rows.{linked-step}
+use Rattle.rules.proofs.Rows as rows
 use Rattle.rules.proofs.Waits.{begun-free}
-use Rattle.history.specs.Pasts.{startsOn}
 use Rattle.ahead.specs.declared.Outlook.{Outlook}
 use Rattle.ahead.specs.Looking.{lookedOn, standsAt, asGiven, outlookFrom, isHorizon, aheadOf}
 use Rattle.ahead.specs.Words.{repeatedTicks, afterTicks, NoCommand, Named, Unnamed, First, ticksRun}
@@ -32,13 +30,22 @@ use Rattle.ahead.proofs.Found.{Found, NoneFound, lastOf, looked}
 -- ---- the record along the ticks
 
 module _ (i : Input) where
+  -- it is the record of any list of ticks (`rules`)
+  leads-to : (a : At Regulator) (n : ℕ) → afterTicks a i n ≡ record { rest = rows.restAfter (a .rest) (a .got) (replicate n i); got = rows.recordAfter (a .got) (replicate n i) }
+  leads-to a n = rows.after-is (a .rest) (a .got) (replicate n i)
+
   pub within-after : (a : At Regulator) (n : ℕ) → withinOf (afterTicks a i n .got) ≡ withinOf (a .got)
-  within-after a zero = refl
-  within-after a (suc n) = within-after (leftBy a i) n ∙ within-kept (a .got) i
+  within-after a n = ap (λ (x : At Regulator). withinOf (x .got)) (leads-to a n) ∙ rows.within-after (a .got) (replicate n i)
+
+  pub settings-after : (a : At Regulator) (n : ℕ) → afterTicks a i n .got .settings ≡ a .got .settings
+  settings-after a n = ap (λ (x : At Regulator). x .got .settings) (leads-to a n) ∙ rows.settings-after (a .got) (replicate n i)
 
   pub linked-after : (a : At Regulator) (n : ℕ) → Linked (a .rest) (a .got) → Linked (afterTicks a i n .rest) (afterTicks a i n .got)
-  linked-after a zero k = k
-  linked-after a (suc n) k = linked-after (leftBy a i) n (linked-step (a .rest) (a .got) i)
+  linked-after a n k =
+      subst (λ (x : At Regulator). Linked (x .rest) (x .got)) (sym (leads-to a n)) (rows.linked-after (a .rest) (a .got) (replicate n i) k)
+
+  pub length-repeated : (a : At Regulator) (n : ℕ) → length (repeatedTicks a i n) ≡ n
+  length-repeated a n = rows.length-ticks (a .rest) (a .got) (replicate n i) ∙ length-replicate n i
 
   after-suc : (a : At Regulator) (n : ℕ) → afterTicks a i (suc n) ≡ leftBy (afterTicks a i n) i
   after-suc a zero = refl
@@ -74,11 +81,6 @@ module _ (r : Regulator) (i : Input) (n : ℕ) where
   pub look-is : withinOf r ≡ true → isHorizon n ≡ true → aheadOf r i n ≡ outlookFrom (startsOn r) i n
   unfolding aheadOf
   look-is h k = sym (yes _ _ _ _ h (yes _ _ _ _ k refl))
-
-  -- "4", then "6", and what both return
-  pub four : withinOf r ≡ false → aheadOf r i n ≡ asGiven 4 r
-  unfolding aheadOf
-  four h = sym (no _ _ _ _ h refl)
 
   -- the look, by what it found
   looked-cases : (P : Outlook → Type 0) → ((o : Outlook) → Found i (startsOn r) n 0 o → P o) → ((o : Outlook) → NoneFound i (asGiven 0 r) (startsOn r) n o → P o)
@@ -138,7 +140,7 @@ module _ (r : Regulator) (i : Input) (n : ℕ) where
     found-way : (o : Outlook) → o .way ≡ To d → (f : Found i (startsOn r) n 0 o) → f .direction ≡ d
     found-way o w f = same-to (f .direction) (sym (ap (λ (q : Outlook). q .way) (f .is)) ∙ w)
 
-    not-found : (o : Outlook) → o .way ≡ To d → NoneFound i (asGiven 0 r) (startsOn r) n o → ⊥
+    pub not-found : (o : Outlook) → o .way ≡ To d → NoneFound i (asGiven 0 r) (startsOn r) n o → ⊥
     not-found o w f =
         no-way d (sym (last-plain i (asGiven 0 r) (startsOn r) n (refl, refl, refl) .2) ∙ sym (ap (λ (q : Outlook). q .way) (f .is)) ∙ w)
 
@@ -147,7 +149,7 @@ module _ (r : Regulator) (i : Input) (n : ℕ) where
 
     first-of : (o : Outlook) → o .way ≡ To d → Found i (startsOn r) n 0 o → First (repeatedTicks (startsOn r) i n) d o
     first-of o w f =
-        let m : length (repeatedTicks (startsOn r) i (f .before)) ≡ f .before = length-run leftBy seenOn (startsOn r) (replicate (f .before) i) ∙ length-replicate (f .before) i in
+        let m : length (repeatedTicks (startsOn r) i (f .before)) ≡ f .before = length-repeated i (startsOn r) (f .before) in
         let t : o .tick ≡ 0 + f .before + 1 = ap (λ (q : Outlook). q .tick) (f .is) in
         record {
           front = repeatedTicks (startsOn r) i (f .before);

@@ -13,15 +13,14 @@ use Rattle.input.specs.declared.Input.{Input}
 use Rattle.record.specs.declared.Regulator.{Regulator}
 use Rattle.record_limits.specs.Limits.{withinOf}
 use Rattle.claim.specs.Runs.{At}
-use Rattle.rules.specs.Lists.{leftBy, seenOn}
+use Rattle.rules.specs.Lists.{leftBy, seenOn, startsOn}
 use Rattle.rules.proofs.Steps.{never-both}
-use Rattle.history.specs.Pasts.{startsOn}
 use Rattle.ahead.specs.declared.Outlook.{Outlook}
 use Rattle.ahead.specs.Looking.{Looked, lookedOn, lookedFrom, begunBy, standsAt, foundOr, firstAfter, asGiven, outlookFrom, isHorizon, aheadOf}
 use Rattle.ahead.specs.Words.{repeatedTicks, afterTicks, NoCommand, laterTick, laterBy}
 use Rattle.ahead.proofs.Begun.{no-way, none-exactly}
 use Rattle.ahead.proofs.Found.{Found, lastOf, looked}
-use Rattle.ahead.proofs.Laws.{within-after, linked-after, last-next, last-plain, answer-cases, look-is, none}
+use Rattle.ahead.proofs.Laws.{within-after, linked-after, last-next, last-plain, answer-cases, look-is, not-found}
 
 module _ (i : Input) where
   -- past a tick that begins no command
@@ -84,7 +83,7 @@ module _ (r : Regulator) (i : Input) (n m : ℕ) where
       (λ h k w q.
       look-is r i (n + m) h q
       ∙ ⊎-elim (λ f. same f)
-      (λ f. absurd (no-way d (sym (last-plain i (asGiven 0 r) (startsOn r) n (refl, refl, refl) .2) ∙ sym (ap (λ (p : Outlook). p .way) (f .is)) ∙ w)))
+      (λ f. absurd (not-found r i n d _ w f))
       (looked i (startsOn r) n 0 (asGiven 0 r)))
     where
       same : Found i (startsOn r) n 0 (outlookFrom (startsOn r) i n) → outlookFrom (startsOn r) i (n + m) ≡ outlookFrom (startsOn r) i n

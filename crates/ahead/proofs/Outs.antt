@@ -18,10 +18,9 @@ use Rattle.claim.specs.Claim.{Command}
 use Rattle.claim.specs.Runs.{At}
 use Rattle.rules.specs.declared.Ticked.{Ticked}
 use Rattle.rules.specs.Ticks.{allOff, isOut, outOf, tickOf}
-use Rattle.rules.specs.Lists.{leftBy, seenOn}
+use Rattle.rules.specs.Lists.{seenOn, startsOn}
 use Rattle.rules.proofs.Shown.{contactsAt}
-use Rattle.rules.proofs.Steps.{Linked, settings-kept, out-is}
-use Rattle.history.specs.Pasts.{startsOn}
+use Rattle.rules.proofs.Steps.{Linked, out-is}
 use Rattle.history.proofs.Fields.{told-out}
 use Rattle.history.proofs.Steps.{begins-ran}
 use Rattle.ahead.specs.declared.Outlook.{Outlook}
@@ -29,7 +28,7 @@ use Rattle.ahead.specs.Looking.{lookedOn, begunBy, standsAt, asGiven, is
 use Rattle.ahead.specs.Words.{afterTicks}
 use Rattle.ahead.proofs.Begun.{begins-to}
 use Rattle.ahead.proofs.Found.{lastOf, looked}
-use Rattle.ahead.proofs.Laws.{within-after, linked-after, last-is, look-is}
+use Rattle.ahead.proofs.Laws.{within-after, settings-after, linked-after, last-is, look-is}
 
 module _ (i : Input) where
   -- no tick that is out begins a command
@@ -37,17 +36,9 @@ module _ (i : Input) where
   silent a k o (inl b) = begins-ran (a .rest) (a .got) i k _ b .notOut (told-out (a .got) i (a .rest) o)
   silent a k o (inr b) = begins-ran (a .rest) (a .got) i k _ b .notOut (told-out (a .got) i (a .rest) o)
 
-  out-on : (a : At Regulator) → isOut (leftBy a i .got) (contactsAt i) ≡ isOut (a .got) (contactsAt i)
-  unfolding isOut
-  out-on a = ap (λ (s : List ℕ). eqb (slot s inService) 0 || contactsAt i .out) (settings-kept (a .got) i)
-
   out-after : (a : At Regulator) (n : ℕ) → isOut (afterTicks a i n .got) (contactsAt i) ≡ isOut (a .got) (contactsAt i)
-  out-after a zero = refl
-  out-after a (suc n) = out-after (leftBy a i) n ∙ out-on a
-
-  settings-after : (a : At Regulator) (n : ℕ) → afterTicks a i n .got .settings ≡ a .got .settings
-  settings-after a zero = refl
-  settings-after a (suc n) = settings-after (leftBy a i) n ∙ settings-kept (a .got) i
+  unfolding isOut
+  out-after a n = ap (λ (s : List ℕ). eqb (slot s inService) 0 || contactsAt i .out) (settings-after i a n)
 
 -- what stands: no command, outputs 0, the fresh record
 abbrev pub atRest : List ℕ → Outlook

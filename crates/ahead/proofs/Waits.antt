@@ -8,7 +8,7 @@ use mathlib.Core.List.{List, [], _∷_, _++_}
 use mathlib.Core.Logic.{⊎-elim, _↔_}
 use borrow.Author.Tests.{leb-true, leb-false}
 use lib.Dec.{leb}
-use lib.ListN.{length, replicate, length-replicate}
+use lib.ListN.{length, replicate}
 use Rattle.common.specs.Choice.{choose}
 use Rattle.common.proofs.Joined.{split, and-left}
 use Rattle.slots.specs.Slots.{slot, t1, t2, t3, isContinuous}
@@ -29,16 +29,14 @@ use Rattle.record_limits.specs.Limits.{withinOf}
 use Rattle.claim.specs.Claim.{Tick, All, Some, Begins, Command, Waiting, InForce, Kept, longest, waitFor}
 use Rattle.claim.specs.Runs.{At}
 use Rattle.claim.proofs.Lists.{all-front, all-join, all-back, all-map, some-none}
-use Rattle.claim.proofs.Runs.{length-run}
 use Rattle.rules.specs.declared.Ticked.{Ticked}
 use Rattle.rules.specs.Ticks.{isOut}
-use Rattle.rules.specs.Lists.{leftBy, seenOn, delayIn, opening}
+use Rattle.rules.specs.Lists.{leftBy, seenOn, delayIn, opening, startsOn}
 use Rattle.rules.proofs.Claim.{kept}
 use Rattle.rules.proofs.Shown.{contactsAt, sensedAt, decidedAt}
 use Rattle.rules.proofs.Steps.{tickAt, nextAt, Linked, Live, live-of, settings-kept, accepted-within, never-both}
 use Rattle.rules.proofs.Rows.{linked-step}
 use Rattle.rules.proofs.Waits.{wait-step, begun-moves, force-is, force-least, force-most}
-use Rattle.history.specs.Pasts.{startsOn}
 use Rattle.history.proofs.Fields.{live-repeat, not-out}
 use Rattle.history.proofs.Steps.{command-of, none-decided}
 use Rattle.ahead.specs.declared.Outlook.{Outlook}
@@ -46,7 +44,7 @@ use Rattle.ahead.specs.Looking.{begunBy, asGiven, isHorizon, aheadOf}
 use Rattle.ahead.specs.Words.{repeatedTicks, afterTicks, NoCommand, WaitsOn}
 use Rattle.ahead.proofs.Begun.{no-way, begins-to, way-of}
 use Rattle.ahead.proofs.Found.{Found, looked}
-use Rattle.ahead.proofs.Laws.{linked-after, ticks-cut, look-is}
+use Rattle.ahead.proofs.Laws.{linked-after, length-repeated, ticks-cut, look-is}
 
 -- ---- the delay in force stays from a waiting tick to the next
 
@@ -124,9 +122,6 @@ module _ (d : Direction) (i : Input) where
       (on-from a n w (none .0)) (none .1) in
       ((force-is d (a .rest) (a .got) i ∙ e, f .0), f .1)
 
-  pub length-ticks : (a : At Regulator) (n : ℕ) → length (repeatedTicks a i n) ≡ n
-  length-ticks a n = length-run leftBy seenOn a (replicate n i) ∙ length-replicate n i
-
   -- a waiting tick begins a command to its side, or none
   to-its-side : (a : At Regulator) → Linked (a .rest) (a .got) → Waiting d (seenOn a i) → (e : Direction) → begunBy (seenOn a i) ≡ To e → Begins d (seenOn a i)
   to-its-side a k w e b =
@@ -172,7 +167,7 @@ module _ (d : Direction) (r : Regulator) (i : Input) (n : ℕ) (w : WaitsOn d (s
       let k = longest (r .settings) - 1 in
       let before = none-before k m (omega arith) none in
       let free = all-front _ (repeatedTicks A i k) _ before in
-      let e : length (repeatedTicks A i k) ≡ k = length-ticks d i A k in
+      let e : length (repeatedTicks A i k) ≡ k = length-repeated i A k in
       no-begins d i (repeatedTicks A i k ++ (seenOn (afterTicks A i k) i ∷ [])) before
       (promise .latest d [] (repeatedTicks A i k) (seenOn (afterTicks A i k) i) _ (cut-at k (omega arith))
       (all-waiting d i A k (fewer d i A k n (omega arith) w) free) (w k (omega arith) free) (omega arith))
@@ -229,7 +224,7 @@ module _ (d : Direction) (r : Regulator) (i : Input) (n : ℕ) (w : WaitsOn d (s
     exactly-found o f =
         let t : o .tick ≡ 0 + f .before + 1 = ap (λ (q : Outlook). q .tick) (f .is) in
         let z : n ≡ f .before + suc (f .later) = f .whole in
-        let m : length (repeatedTicks A i (f .before)) ≡ f .before = length-ticks d i A (f .before) in
+        let m : length (repeatedTicks A i (f .before)) ≡ f .before = length-repeated i A (f .before) in
         let b =
         to-its-side d i (afterTicks A i (f .before)) (linked (f .before)) (w (f .before) (omega arith) (f .none)) (f .direction) (f .begins) in
         let e : length (repeatedTicks A i (f .before)) + 1 ≡ delayIn d r i = exact (f .before) (omega arith) (f .none) .0 b in
@@ -240,7 +235,7 @@ module _ (d : Direction) (r : Regulator) (i : Input) (n : ℕ) (w : WaitsOn d (s
         let q : 20 ≤ delayIn d r i = force-least d r i within in
         let k = delayIn d r i - 1 in
         let before = none-before k n (omega arith) none in
-        let m : length (repeatedTicks A i k) ≡ k = length-ticks d i A k in
+        let m : length (repeatedTicks A i k) ≡ k = length-repeated i A k in
         let b = exact k (omega arith) (all-front _ (repeatedTicks A i k) _ before) .1 (omega arith) in
         all-back _ (repeatedTicks A i k) _ before .0 (command-of _ d b)
 

@@ -15,8 +15,7 @@ use Rattle.record_limits.specs.Limits.{withinOf}
 use Rattle.claim.specs.Claim.{Tick}
 use Rattle.claim.specs.Runs.{runOf, At}
 use Rattle.rules.specs.Ticks.{allOff, tickOf}
-use Rattle.rules.specs.Lists.{leftBy, seenOn}
-use Rattle.history.specs.Pasts.{startsOn}
+use Rattle.rules.specs.Lists.{leftBy, seenOn, startsOn}
 use Rattle.ahead.specs.declared.Outlook.{Outlook}
 
 -- ---- "if that tick repeated": the list of so many of it

@@ -24,11 +24,10 @@ use Rattle.record_limits.specs.Limits.{withinOf}
 use Rattle.claim.specs.Runs.{At}
 use Rattle.rules.specs.declared.Stepped.{Stepped}
 use Rattle.rules.specs.Ticks.{allOff, tickOf, steppedOf}
-use Rattle.rules.specs.Lists.{seenOn}
+use Rattle.rules.specs.Lists.{seenOn, startsOn}
 use Rattle.rules.proofs.Steps.{accepted-is, settings-kept, within-kept}
 use Rattle.ahead.specs.declared.Outlook.{Outlook}
 use Rattle.ahead_looking.specs.declared.Glance.{Glance}
-use Rattle.history.specs.Pasts.{startsOn}
 use Rattle.ahead_looking.specs.Glances.{glanceOf}
 use Rattle.ahead.specs.Looking.{wayBegun, begunBy, standsAt, foundOr, firstAfter, lookedOn, lookedFrom, longestHorizon, isHorizon, asGiven, outlookFrom, aheadOf}
 

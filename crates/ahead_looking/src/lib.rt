@@ -5,7 +5,7 @@ ghost use Rattle.common.specs.Choice.{choose};
 ghost use Rattle.record.specs.Whole.{regulatorOf};
 ghost use Rattle.record_limits.specs.Limits.{withinOf};
 ghost use Rattle.rules.specs.Ticks.{tickOf};
-ghost use Rattle.history.specs.Pasts.{startsOn};
+ghost use Rattle.rules.specs.Lists.{startsOn};
 ghost use Rattle.ahead.specs.Looking.{wayBegun, asGiven, outlookFrom, isHorizon, aheadOf};
 ghost use Rattle.ahead_looking.specs.Glances.{glanceOf};
 use ahead::LONGEST_HORIZON;

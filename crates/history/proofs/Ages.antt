@@ -25,13 +25,13 @@ use Rattle.record_limits.specs.Limits.{withinOf}
 use Rattle.claim.specs.Claim.{Accepted}
 use Rattle.claim.specs.Runs.{runOf, afterOf, At}
 use Rattle.claim.proofs.Runs as runs
-use Rattle.rules.specs.Lists.{leftBy}
+use Rattle.rules.specs.Lists.{leftBy, startsOn}
 use Rattle.rules.specs.Ticks.{isOut}
 use Rattle.rules.proofs.Next.{motion}
 use Rattle.rules.proofs.Shown.{contactsAt}
 use Rattle.rules.proofs.Steps.{nextAt, findingAt, clearedAt, settings-kept, within-kept}
 use Rattle.history.specs.Kept.{Each}
-use Rattle.history.specs.Pasts.{Past, pastOn, startsOn, pastsFrom}
+use Rattle.history.specs.Pasts.{Past, pastOn, pastsFrom}
 use Rattle.history.specs.Memories.{Arises, ArisesNone}
 use Rattle.history.proofs.Fields.{live-latch, live-next, not-out, accepts}
 use Rattle.history.proofs.Memories.{FaultIs, fault-step}

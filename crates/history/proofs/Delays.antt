@@ -27,12 +27,12 @@ use Rattle.record_starting.specs.Starting.{freshOf}
 use Rattle.claim.specs.Claim.{Accepted}
 use Rattle.claim.specs.Runs.{afterOf}
 use Rattle.claim.proofs.Runs as runs
-use Rattle.rules.specs.Lists.{leftBy}
+use Rattle.rules.specs.Lists.{leftBy, startsOn}
 use Rattle.rules.specs.Ticks.{isOut}
 use Rattle.rules.proofs.Shown.{contactsAt, decidedAt, liveAt}
 use Rattle.rules.proofs.Steps.{Linked}
 use Rattle.rules.proofs.Waits.{begun, force-is}
-use Rattle.history.specs.Pasts.{Past, pastOn, startsOn, pastsFrom}
+use Rattle.history.specs.Pasts.{Past, pastOn, pastsFrom}
 use Rattle.history.specs.Delays.{otherSide, Commands, Lasts, Repeats, DelayAfter}
 use Rattle.history.proofs.Fields.{live-repeat, not-told}
 use Rattle.history.proofs.Kept.{remembers-from-none}

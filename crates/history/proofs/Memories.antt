@@ -30,12 +30,12 @@ use Rattle.record_starting.specs.Starting.{freshOf}
 use Rattle.claim.specs.Claim.{Accepted}
 use Rattle.claim.specs.Runs.{afterOf}
 use Rattle.rules.specs.Acting.{actedOf}
-use Rattle.rules.specs.Lists.{leftBy}
+use Rattle.rules.specs.Lists.{leftBy, startsOn}
 use Rattle.rules.specs.Ticks.{isOut}
 use Rattle.rules.proofs.Shown.{given, contactsAt, supervisedAt, liveAt, live-run-away, live-not-started, live-long, live-fast, no-fault, no-field}
 use Rattle.rules.proofs.Steps.{tickAt, nextAt, Linked, live-is, within-kept}
 use Rattle.rules.proofs.Rows.{recordAfter}
-use Rattle.history.specs.Pasts.{Past, pastOn, startsOn, pastsFrom, Ran, Faultless}
+use Rattle.history.specs.Pasts.{Past, pastOn, pastsFrom, Ran, Faultless}
 use Rattle.history.specs.Memories.{Ends, EndsNone, LastMove, Arises, ArisesNone, Latched, Remembering, Presses, PressesNone, PressedLast}
 use Rattle.history.proofs.Fields.{live-keys, live-remembered, live-latch, live-wear, live-next, not-told, accepts}
 use Rattle.history.proofs.Kept.{remembers-from-none}

@@ -24,12 +24,12 @@ use Rattle.record.specs.declared.Regulator.{Regulator}
 use Rattle.record_limits.specs.Limits.{withinOf}
 use Rattle.claim.specs.Runs.{runOf, afterOf}
 use Rattle.rules.specs.Acting.{actedOf}
-use Rattle.rules.specs.Lists.{leftBy}
+use Rattle.rules.specs.Lists.{leftBy, startsOn}
 use Rattle.rules.specs.Ticks.{isOut}
 use Rattle.rules.proofs.Shown.{contactsAt}
 use Rattle.rules.proofs.Steps.{nextAt, settings-kept, within-kept}
 use Rattle.history.specs.Kept.{Each}
-use Rattle.history.specs.Pasts.{Past, pastOn, startsOn, pastsFrom, Out}
+use Rattle.history.specs.Pasts.{Past, pastOn, pastsFrom, Out}
 use Rattle.history.specs.Memories.{upward, downward, upsOf, downsOf}
 use Rattle.history.proofs.Fields.{live-wear, live-next, not-out}
 

@@ -10,7 +10,6 @@ use Rattle.input.specs.declared.Input.{Input}
 use Rattle.input.specs.Brought.{bitOf, contactsOf}
 use Rattle.busbar_level.specs.declared.Level.{Level}
 use Rattle.fault.specs.declared.Fault.{Fault}
-use Rattle.drive_follow.specs.Follow.{restsOf}
 use Rattle.command_manual.specs.Manual.{pressedOf}
 use Rattle.command_pairs.specs.Pairs.{changedOf}
 use Rattle.acting_supervising.specs.Supervising.{clearedOf, followedOf}
@@ -21,7 +20,7 @@ use Rattle.claim.specs.Claim.{Tick, Accepted, output}
 use Rattle.claim.specs.Runs.{runOf, At}
 use Rattle.rules.specs.Acting.{findingOf}
 use Rattle.rules.specs.Ticks.{sensedIn, memoryIn, actedIn}
-use Rattle.rules.specs.Lists.{leftBy, seenOn}
+use Rattle.rules.specs.Lists.{leftBy, seenOn, startsOn}
 
 pub record Past : Type 0 where
   -- as demand 3 sees it
@@ -55,9 +54,6 @@ abbrev pub pastOn : At Regulator → Input → Past
 pastOn a i = pastOf (seenOn a i) (a .got) (contactsOf (i .contacts)) (sensedIn (a .got) i (contactsOf (i .contacts)))
 
 -- the ticks of a list on the record r
-abbrev pub startsOn : Regulator → At Regulator
-startsOn r = record { rest = restsOf (r .state .drive); got = r }
-
 abbrev pub pastsFrom : Regulator → List Input → List Past
 pastsFrom r is = runOf leftBy pastOn (startsOn r) is
 

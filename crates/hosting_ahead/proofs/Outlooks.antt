@@ -19,8 +19,7 @@ use Rattle.record.specs.Whole.{regulatorOf}
 use Rattle.record_limits.specs.Limits.{withinOf}
 use Rattle.claim.specs.Runs.{At}
 use Rattle.rules.specs.Ticks.{allOff, tickOf}
-use Rattle.rules.specs.Lists.{leftBy}
-use Rattle.history.specs.Pasts.{startsOn}
+use Rattle.rules.specs.Lists.{leftBy, startsOn}
 use Rattle.ahead.specs.declared.Outlook.{Outlook}
 use Rattle.ahead.specs.Looking.{wayBegun, asGiven, outlookFrom, longestHorizon, isHorizon, aheadOf}
 use Rattle.ahead.specs.Words.{afterTicks, ticksRun}

@@ -2,7 +2,7 @@
 ghost use mathlib.Core.Path.{_≡_};
 ghost use mathlib.Core.Bool.{true};
 ghost use Rattle.common.specs.Choice.{choose};
-ghost use Rattle.history.specs.Pasts.{startsOn};
+ghost use Rattle.rules.specs.Lists.{startsOn};
 ghost use Rattle.ahead.specs.Looking.{isHorizon, outlookFrom};
 ghost use Rattle.image.specs.Images.{imageWith, recordOf};
 ghost use Rattle.image_input.specs.Bringing.{inputOf};

@@ -42,7 +42,7 @@ pub record Cut (rest : Bool) (r : Regulator) (a b : List Tick) : Type 0 where
   pub isBack : b ≡ ticksFrom (restAfter rest r front) (recordAfter r front) back
 
 -- where a list leaves off
-after-is : (rest : Bool) (r : Regulator) (is : List Input)
+pub after-is : (rest : Bool) (r : Regulator) (is : List Input)
     → afterOf leftBy (record { rest = rest; got = r }) is ≡ record { rest = restAfter rest r is; got = recordAfter r is }
 after-is rest r [] = refl
 after-is rest r (i ∷ is) = after-is (restAt r i) (nextAt r i) is

@@ -45,6 +45,10 @@ seenOn a i = seen (a .rest) (a .got) i (tickOf (a .got) i)
 abbrev pub ticksFrom : Bool → Regulator → List Input → List Tick
 ticksFrom rest r is = runOf leftBy seenOn (record { rest = rest; got = r }) is
 
+-- what a list on the record r starts on. *At rest*, "for the first tick, the record handed in holds no asked command and no move".
+abbrev pub startsOn : Regulator → At Regulator
+startsOn r = record { rest = restsOf (r .state .drive); got = r }
+
 -- the list that a call opens: its own tick, which got r and i and gave t, and then the ticks of `later`. *At rest*, "for the first tick,
 -- the record handed in holds no asked command and no move".
 abbrev pub listFrom : Regulator → Input → Ticked → List Input → List Tick

@@ -75,6 +75,18 @@ fn drive(dice: &mut Dice, settings: &Settings) -> DriveImage {
     DriveImage { kind, direction, ticks }
 }
 
+/// The image with each of its numbers changed by itself, to small ones, its neighbours and the largest: which one, to what.
+pub fn one_changed(image: &Image) -> impl Iterator<Item = (usize, u32, Image)> {
+    let words = image.words();
+    let values = |old: u32| [0, 1, 2, 3, 4, 5, old.wrapping_add(1), old.wrapping_sub(1), u32::MAX];
+    let places = (0..WORDS).flat_map(move |at| values(words[at]).map(|value| (at, value)));
+    places.map(move |(at, value)| {
+        let mut changed = words;
+        changed[at] = value;
+        (at, value, Image::from_words(changed))
+    })
+}
+
 /// Numbers with no thought at all.
 pub fn senseless(dice: &mut Dice) -> Image {
     let shift = dice.between(0, 31);

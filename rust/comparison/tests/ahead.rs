@@ -1,7 +1,7 @@
 //! `avr_ahead` against the second program: the answer, the tick, the way, all outputs and the whole next record.
 
 use comparison::convert::{brought, image_of, outlook_of, record_of};
-use comparison::hostile::{senseless, tampered};
+use comparison::hostile::{one_changed, senseless, tampered};
 use library::{ahead, tick_by_value, Brought, Image, Outlook, Outputs, Ticked, FIELDS, LONGEST_HORIZON};
 use reference::ahead::ahead as second;
 use reference::dice::Dice;
@@ -240,16 +240,10 @@ fn one_number_changed() {
             scene.next_tick();
         }
         let (input, ticked) = scene.next_tick();
-        let words = image_of(&ticked.next).words();
-        for at in 0..words.len() {
-            for value in [0, 1, 2, 3, 4, 5, words[at].wrapping_add(1), words[at].wrapping_sub(1), u32::MAX] {
-                let mut changed = words;
-                changed[at] = value;
-                let image = Image::from_words(changed);
-                for horizon in [0, dice.between(1, 40), LONGEST_HORIZON + 1] {
-                    let outlook = compare(&image, &input, horizon, &mut dice, &format!("seed {seed}, word {at} = {value}"));
-                    seen.add(&image, &input, horizon, &outlook);
-                }
+        for (at, value, image) in one_changed(&image_of(&ticked.next)) {
+            for horizon in [0, dice.between(1, 40), LONGEST_HORIZON + 1] {
+                let outlook = compare(&image, &input, horizon, &mut dice, &format!("seed {seed}, word {at} = {value}"));
+                seen.add(&image, &input, horizon, &outlook);
             }
         }
     }

@@ -1,7 +1,7 @@
 //! `avr_tick` against the second program, tick by tick: the answer, all outputs and the whole next record.
 
 use comparison::convert::{brought, image_of, record_of};
-use comparison::hostile::{senseless, tampered};
+use comparison::hostile::{one_changed, senseless, tampered};
 use library::{start, tick, tick_by_value, Image, Outputs, Ticked, FIELDS};
 use reference::dice::Dice;
 use reference::input::{bit, Contacts, Input};
@@ -199,15 +199,9 @@ fn one_number_changed() {
             scene.next_tick();
         }
         let (input, ticked) = scene.next_tick();
-        let words = image_of(&ticked.next).words();
-        for at in 0..words.len() {
-            for value in [0, 1, 2, 3, 4, 5, words[at].wrapping_add(1), words[at].wrapping_sub(1), u32::MAX] {
-                let mut changed = words;
-                changed[at] = value;
-                let image = Image::from_words(changed);
-                compare(&image, &input, &mut dice, &format!("seed {seed}, word {at} = {value}"));
-                ticks += 1;
-            }
+        for (at, value, image) in one_changed(&image_of(&ticked.next)) {
+            compare(&image, &input, &mut dice, &format!("seed {seed}, word {at} = {value}"));
+            ticks += 1;
         }
     }
     println!("{ticks} ticks");

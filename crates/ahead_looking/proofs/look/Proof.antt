@@ -3,7 +3,7 @@
 use Prim.Native.Nat.{_-_}
 use borrow.Author.Needs.{needs}
 use Rattle.record.specs.Whole.{regulatorOf}
-use Rattle.history.specs.Pasts.{startsOn}
+use Rattle.rules.specs.Lists.{startsOn}
 use Rattle.ahead.specs.Looking.{outlookFrom}
 use Rattle.ahead_looking.proofs.Looks.{Going, going-start, ends, looks-on, finds}
 use Rattle.ahead_looking.proofs.look.Statement.{statement}

@@ -1,7 +1,7 @@
 -- `hosting_ahead::look_on` meets its contract. The measure is what is left of the horizon. Assumes nothing.
 use Prim.Native.Nat.{_-_}
 use borrow.Author.Needs.{needs}
-use Rattle.history.specs.Pasts.{startsOn}
+use Rattle.rules.specs.Lists.{startsOn}
 use Rattle.ahead.specs.Looking.{outlookFrom}
 use Rattle.image.specs.Images.{imageWith, recordOf}
 use Rattle.image_input.specs.Bringing.{inputOf}
