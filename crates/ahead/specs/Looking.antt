@@ -62,7 +62,7 @@ firstAfter n last (t ∷ ts) = foundOr (n + 1) t (begunBy (t .tick)) (firstAfter
 abbrev pub asGiven : ℕ → Regulator → Outlook
 asGiven refusal r = record { refusal = refusal; tick = 0; way = Neither; outputs = allOff; next = r }
 
--- over a horizon of n ticks
+-- over a horizon of n ticks, at least one
 abbrev pub outlookFrom : At Regulator → Input → ℕ → Outlook
 outlookFrom a i n = firstAfter 0 (asGiven 0 (a .got)) (lookedFrom a i n)
 

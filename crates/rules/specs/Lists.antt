@@ -45,7 +45,7 @@ seenOn a i = seen (a .rest) (a .got) i (tickOf (a .got) i)
 abbrev pub ticksFrom : Bool → Regulator → List Input → List Tick
 ticksFrom rest r is = runOf leftBy seenOn (record { rest = rest; got = r }) is
 
--- what a list on the record r starts on. *At rest*, "for the first tick, the record handed in holds no asked command and no move".
+-- what a list on the record r starts on
 abbrev pub startsOn : Regulator → At Regulator
 startsOn r = record { rest = restsOf (r .state .drive); got = r }
 
