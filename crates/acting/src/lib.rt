@@ -1,4 +1,6 @@
 // Rules 2 and 7 to 9: what is done. Each rule, called with what it needs of the record, the sheet and the rules before it.
+#![tactic(auto)]
+
 ghost use Rattle.std.specs.Prelude.{◌≡◌};
 ghost use Rattle.rules.specs.Acting.{finding_of, acted_of};
 

@@ -1,5 +1,7 @@
 // Rule 7: what an ended move leaves: the last direction, the operations, the counted tap. Without a switching contact an ended
 // command leaves an operation.
+#![tactic(auto)]
+
 ghost use Rattle.std.specs.Prelude.{◌≡◌};
 ghost use Rattle.acting_accounting.specs.Accounting.{one_more_of, operations_of, accounted_of};
 
@@ -10,7 +12,7 @@ use ways::Way;
 pub const MOST_OPERATIONS: u32 = 999_999;
 
 // What ended moves leave in the record: the last direction, the operations, the counted tap.
-#[derive(Drop)]
+#[derive(Clone, Copy)]
 pub struct Wear {
     pub last: Way,
     pub operations: u32,
@@ -18,7 +20,7 @@ pub struct Wear {
 }
 
 // The same after this tick, and whether the counted tap stayed at an end.
-#[derive(Drop)]
+#[derive(Clone, Copy)]
 pub struct Accounted {
     pub wear: Wear,
     pub range_error: bool,

@@ -1,4 +1,6 @@
 // Rule 9, the wait and the command; the press that is remembered.
+#![tactic(auto)]
+
 ghost use Rattle.std.specs.Prelude.{◌≡◌};
 ghost use Rattle.acting_commanding.specs.Commanding.{ask_of, situated_of, noted_of, memory_of, regulated_of, drops_of};
 ghost use Rattle.command_deciding.specs.Deciding.{decided_of};
@@ -28,7 +30,7 @@ fn ask(d: Drive, automatic: bool, command: Way) -> Drive
 }
 
 // The drive after the rule, and what the rule keeps for the next tick.
-#[derive(Drop)]
+#[derive(Clone, Copy)]
 pub struct Regulated {
     pub drive: Drive,
     pub memory: Memory,
@@ -36,7 +38,7 @@ pub struct Regulated {
 
 // What the rule finds on a tick: the side of the deviation and whether it is far, the buttons that it hears, and whether the drive
 // rested as the tick started.
-#[derive(Drop)]
+#[derive(Clone, Copy)]
 pub struct Noted {
     pub side: Way,
     pub far: bool,

@@ -1,4 +1,6 @@
 // Rule 8, the blocks.
+#![tactic(auto)]
+
 ghost use Rattle.std.specs.Prelude.{◌≡◌};
 ghost use Rattle.acting_judging.specs.Judging.{blocked_of};
 
@@ -9,7 +11,7 @@ use input::Contacts;
 use slots::SLOTS;
 
 // What rules 3 to 6 have found, as rules 7 and 8 go by it.
-#[derive(Drop)]
+#[derive(Clone, Copy)]
 pub struct Finding {
     pub section: bool,
     pub level: Level,

@@ -1,4 +1,6 @@
 // Rule 2, reset; rule 7, the drive of either kind and its faults.
+#![tactic(auto)]
+
 ghost use Rattle.std.specs.Prelude.{◌≡◌};
 ghost use Rattle.acting_supervising.specs.Supervising.{contact_of, holding_of, followed_of, supervised_of};
 
@@ -12,7 +14,7 @@ use slots::{CONTINUOUS, SLOTS, T4, T5, T6, T8};
 use ways::Way;
 
 // The drive after the rule, the move that ended, whether an operation counts, the latch, and the fault's age before this tick.
-#[derive(Drop)]
+#[derive(Clone, Copy)]
 pub struct Supervised {
     pub drive: Drive,
     pub ended: Way,

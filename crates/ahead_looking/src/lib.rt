@@ -1,4 +1,6 @@
 // The look ahead (02, ticket 8): the tick repeated, up to the first command.
+#![tactic(auto)]
+
 ghost use Rattle.std.specs.Prelude.{◌≡◌, true};
 ghost use Rattle.common.specs.Choice.{choose};
 ghost use Rattle.record.specs.Whole.{regulator_of};
@@ -16,7 +18,7 @@ use slots::SLOTS;
 use ways::{Direction, Way};
 
 // One tick of the look: the command that it begins, whether the drive rests after it, its outputs and its state.
-#[derive(Drop)]
+#[derive(Clone, Copy)]
 pub struct Glance {
     pub way: Way,
     pub rests: bool,

@@ -1,4 +1,6 @@
 // Rule 8: what each tick blocks.
+#![tactic(auto)]
+
 ghost use Rattle.std.specs.Prelude.{◌≡◌};
 ghost use Rattle.blocks.specs.Blocked.{common_of, end_of, organs_automatic_of, any_trip_of, tap_lost_of, blocks_of, opposed_of};
 
@@ -9,7 +11,7 @@ use slots::{
 use ways::Direction;
 
 // What the rules before have found on this tick.
-#[derive(Drop)]
+#[derive(Clone, Copy)]
 pub struct Found {
     pub fault: bool,
     pub section: bool,
@@ -19,7 +21,7 @@ pub struct Found {
 }
 
 // Automatic and manual commands, and each direction with the common blocks.
-#[derive(Drop)]
+#[derive(Clone, Copy)]
 pub struct Blocks {
     pub automatic: bool,
     pub manual: bool,

@@ -1,5 +1,7 @@
 // The library for a host in C or Rust. `c/avr.h` has the same declarations for C. The host holds the image of a record,
 // lends it for a tick and finds it advanced.
+#![tactic(auto)]
+
 ghost use Rattle.std.specs.Prelude.{◌≡◌, true, false, List, ◌↔◌};
 ghost use Rattle.common.specs.Choice.{choose};
 ghost use Rattle.sheet.specs.Settings.{Settings};
@@ -19,7 +21,7 @@ use image_input::Brought;
 // The answer to a list: 0, or the number of the refusal and its slot, with the image of the record that the list gives; of the
 // record of zeros where it is refused.
 #[repr(C)]
-#[derive(Drop)]
+#[derive(Clone, Copy)]
 pub struct Started {
     pub number: u32,
     pub slot: u32,

@@ -1,4 +1,6 @@
 // Rule 6: the voltage U, which is U_AB less the drop that the load's current makes.
+#![tactic(auto)]
+
 ghost use Rattle.std.specs.Prelude.{◌≡◌, true, ◌≤◌, ◌<◌, ◌^◌, nat_abs};
 ghost use Rattle.busbar_current.specs.Current.{most_reading, most_current, difference_of, Within};
 ghost use Rattle.busbar_compensation.specs.Voltage.{most_comp, drop_of, is_rating, is_rated, voltage_drop, voltage_of};

@@ -1,4 +1,6 @@
 // What rule 6 takes of readings: the number of a Good one, and the current of the compensation.
+#![tactic(auto)]
+
 ghost use Rattle.std.specs.Prelude.{◌≡◌};
 ghost use Rattle.busbar_current.specs.Current.{most_reading, reading_of, good_of, sum_of, difference_of, current_of, Within};
 
@@ -6,7 +8,7 @@ use measure::Measured;
 use slots::{COMPENSATION_CURRENT, SLOTS};
 
 // A signed number of mV or mA, or missing.
-#[derive(Drop)]
+#[derive(Clone, Copy)]
 pub enum Value {
     Missing,
     Is(i64),

@@ -1,4 +1,6 @@
 // Rule 6: how the voltage stands to U_supp, the voltage to be kept; of rule 9, what asks for T3.
+#![tactic(auto)]
+
 ghost use Rattle.std.specs.Prelude.{◌≡◌, pos, ◌*ℤ◌};
 ghost use Rattle.std.specs.Int.Signed.{le_z, lt_z};
 ghost use Rattle.busbar_deviation.specs.Deviation.{supply_of, low_of, high_of, band_of, level_of, far_above};

@@ -1,11 +1,13 @@
 // How a voltage stands to the band around U_supp, and what that asks for.
+#![tactic(auto)]
+
 ghost use Rattle.std.specs.Prelude.{◌≡◌};
 ghost use Rattle.busbar_level.specs.Levels.{side_of, is_missing, is_in_band};
 
 use ways::{Direction, Way};
 
 // How a voltage stands to the band around U_supp.
-#[derive(Drop)]
+#[derive(Clone, Copy)]
 pub enum Level {
     Missing,
     Low,

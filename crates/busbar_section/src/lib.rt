@@ -1,4 +1,6 @@
 // Rule 3: whether the busbar section is in operation.
+#![tactic(auto)]
+
 ghost use Rattle.std.specs.Prelude.{◌≡◌};
 ghost use Rattle.busbar_section.specs.Section.{good_above, section_of};
 

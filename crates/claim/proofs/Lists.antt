@@ -37,6 +37,7 @@ module _ (P : Tick → Type 0) where
   all_last a t h = (all_back a (t ∷ []) h).0
 
   pub some_none : (l : List Tick) → All (λ t. P t → ⊥) l → Some P l → ⊥
+  some_none [] n x'' = elim x'' [ ]
   some_none (t ∷ l) n (inl p) = n.0 p
   some_none (t ∷ l) n (inr s) = some_none l n.1 s
 

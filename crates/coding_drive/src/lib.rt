@@ -1,4 +1,6 @@
 // The drive in numbers, and back; which numbers stand for a case.
+#![tactic(auto)]
+
 ghost use Rattle.std.specs.Prelude.{◌≡◌};
 ghost use Rattle.coding_drive.specs.Numbers.{asked_number, move_number, drive_image, drive_of, is_drive};
 
@@ -7,7 +9,7 @@ use drive::Drive;
 // `kind`: 0 at rest, 1 asked by an automatic command, 2 a commanded move, 3 an own move, 4 asked by a manual command.
 // `direction`: 0 raise, 1 lower. `ticks`: the asked command's age or the move's length. At rest all three are 0.
 #[repr(C)]
-#[derive(Drop)]
+#[derive(Clone, Copy)]
 pub struct DriveImage {
     pub kind: u32,
     pub direction: u32,

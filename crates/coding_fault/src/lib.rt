@@ -1,4 +1,6 @@
 // A fault in numbers, and back; which numbers stand for a case.
+#![tactic(auto)]
+
 ghost use Rattle.std.specs.Prelude.{◌≡◌};
 ghost use Rattle.coding_fault.specs.Numbers.{fault_number, fault_of};
 

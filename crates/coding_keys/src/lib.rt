@@ -1,4 +1,6 @@
 // The keys of the previous tick in numbers, and back; which numbers stand for a case.
+#![tactic(auto)]
+
 ghost use Rattle.std.specs.Prelude.{◌≡◌};
 ghost use Rattle.coding_keys.specs.Numbers.{key_image, keys_of, are_keys};
 
@@ -6,7 +8,7 @@ use keys::{Buttons, Keys};
 
 // The keys of the previous tick, each 0 or 1: the panel's two buttons, the dispatcher's, and the mode, 1 being remote.
 #[repr(C)]
-#[derive(Drop)]
+#[derive(Clone, Copy)]
 pub struct KeyImage {
     pub raise_button: u32,
     pub lower_button: u32,

@@ -1,4 +1,6 @@
 // The wait in numbers, and back; which numbers stand for a case.
+#![tactic(auto)]
+
 ghost use Rattle.std.specs.Prelude.{◌≡◌};
 ghost use Rattle.coding_wait.specs.Numbers.{wait_image, wait_of, is_wait};
 
@@ -7,7 +9,7 @@ use ways::{Direction, Way};
 
 // `side`: 0 no wait, 1 the low side, which a raise answers, 2 the high side, which a lower answers. Without a wait both are 0.
 #[repr(C)]
-#[derive(Drop)]
+#[derive(Clone, Copy)]
 pub struct WaitImage {
     pub side: u32,
     pub ticks: u32,

@@ -1,4 +1,6 @@
 // A direction and a way in numbers, and back; which numbers stand for a case.
+#![tactic(auto)]
+
 ghost use Rattle.std.specs.Prelude.{◌≡◌};
 ghost use Rattle.coding_ways.specs.Numbers.{direction_number, direction_of, way_number, way_of};
 

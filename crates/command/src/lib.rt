@@ -1,4 +1,6 @@
 // What rule 9 keeps, what it goes by and what it decides: the wait, its memory, the situation, the decision.
+#![tactic(auto)]
+
 ghost use Rattle.std.specs.Prelude.{◌≡◌};
 ghost use Rattle.command.specs.Idling.{idle_of};
 
@@ -10,7 +12,7 @@ use ways::{Direction, Way};
 pub const LONGEST_WAIT: u32 = 35_999;
 
 // The ticks for which a deviation has been waited for, on the side that a command of this direction answers.
-#[derive(Drop)]
+#[derive(Clone, Copy)]
 pub enum Wait {
     Idle,
     For { direction: Direction, ticks: u32 },
@@ -18,7 +20,7 @@ pub enum Wait {
 
 // What rule 9 keeps from one tick to the next. `repeat` is the side of the last automatic command, while T2 goes by it; `keys`
 // are those of the previous tick, its mode included; `remembered` is the press that was made while the drive ran.
-#[derive(Drop)]
+#[derive(Clone, Copy)]
 pub struct Memory {
     pub wait: Wait,
     pub repeat: Way,
@@ -29,7 +31,7 @@ pub struct Memory {
 // What rule 9 goes by. `resting`: the drive rested at tick start and still does. `side`: the command that the deviation asks
 // for. `far`: U is above U_set5. `repeat`: the side of the last automatic command, while T2 goes by it. `buttons`, `before`: those of
 // the mode's pair on this tick and on the previous one. `remembered`: the press that was made while the drive ran.
-#[derive(Drop)]
+#[derive(Clone, Copy)]
 pub struct Situation {
     pub resting: bool,
     pub automatic: bool,
@@ -44,7 +46,7 @@ pub struct Situation {
 }
 
 // The command that begins on this tick, and the wait after it.
-#[derive(Drop)]
+#[derive(Clone, Copy)]
 pub struct Decided {
     pub command: Way,
     pub wait: Wait,

@@ -1,4 +1,6 @@
 // Rule 9 in automatic mode.
+#![tactic(auto)]
+
 ghost use Rattle.std.specs.Prelude.{◌≡◌};
 ghost use Rattle.command_automatic.specs.Automatic.{commanded_of, ticks_of, waited_of, delay_of, wait_on_of, toward_of, automatic_of, kept_of, repeat_of};
 

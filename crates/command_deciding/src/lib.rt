@@ -1,4 +1,6 @@
 // Rule 9: the wait, the delay in force and the command that begins. It decides a command, and does not follow the drive.
+#![tactic(auto)]
+
 ghost use Rattle.std.specs.Prelude.{◌≡◌};
 ghost use Rattle.command_deciding.specs.Deciding.{decided_of};
 

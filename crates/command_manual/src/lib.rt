@@ -1,4 +1,6 @@
 // Rule 9 in manual mode: a press, one that was made while the drive ran included.
+#![tactic(auto)]
+
 ghost use Rattle.std.specs.Prelude.{◌≡◌};
 ghost use Rattle.command_manual.specs.Manual.{pressed_of, sought_of, manual_of, remembered_of};
 

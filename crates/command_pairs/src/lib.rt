@@ -1,4 +1,6 @@
 // Panel and dispatcher: which pair of buttons rule 9 goes by, and what a change of mode leaves of a remembered press.
+#![tactic(auto)]
+
 ghost use Rattle.std.specs.Prelude.{◌≡◌};
 ghost use Rattle.command_pairs.specs.Pairs.{pair_of, changed_of, heard_of};
 
@@ -7,7 +9,7 @@ use ways::Way;
 
 // What manual mode goes by: the buttons of the mode's pair, on this tick and on the previous one, and the press that is still
 // remembered.
-#[derive(Drop)]
+#[derive(Clone, Copy)]
 pub struct Heard {
     pub buttons: Buttons,
     pub before: Buttons,

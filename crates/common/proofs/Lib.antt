@@ -2,10 +2,7 @@ pub mod Cases
 pub mod Done
 pub mod Fill
 pub mod Joined
-pub mod LentOne
-pub mod LentThree
 pub mod Opened
 pub mod Places
-pub mod Walks
 pub mod Signed
 pub mod Written

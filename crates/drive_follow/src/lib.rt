@@ -1,4 +1,6 @@
 // Rule 7: a drive with a switching contact over one tick.
+#![tactic(auto)]
+
 ghost use Rattle.std.specs.Prelude.{◌≡◌};
 ghost use Rattle.drive_follow.specs.Follow.{unmoved_of, faulty_of, ended_of, own_of, rest_of, asked_of, moving_of, follow_of, rests_of, within_of};
 
@@ -7,7 +9,7 @@ use fault::Fault;
 use ways::{Direction, Way};
 
 // What rule 7 goes by. `faulty`: a fault is latched. `sliding`: the tap is a sliding one. `last`: the last direction.
-#[derive(Drop)]
+#[derive(Clone, Copy)]
 pub struct Contact {
     pub local: bool,
     pub closed: bool,
@@ -20,7 +22,7 @@ pub struct Contact {
 }
 
 // The drive after the tick, the fault that arose, the direction of the move that ended on it, and whether an operation counts.
-#[derive(Drop)]
+#[derive(Clone, Copy)]
 pub struct Followed {
     pub drive: Drive,
     pub fault: Fault,

@@ -1,4 +1,6 @@
 // 02, ticket 2: a drive without a switching contact over one tick. Its command is held, and nothing tells of a move.
+#![tactic(auto)]
+
 ghost use Rattle.std.specs.Prelude.{◌≡◌};
 ghost use Rattle.drive_hold.specs.Hold.{released_of, ends_of, automatic_of, manual_of, held_of, hold_of, within_of};
 
@@ -10,7 +12,7 @@ use ways::{Direction, Way};
 
 // What a held command goes by. `automatic`: the mode. `side`: the command that the deviation asks for. `blocks`: what the tick
 // blocks, a fault that arises on it left aside.
-#[derive(Drop)]
+#[derive(Clone, Copy)]
 pub struct Holding {
     pub local: bool,
     pub automatic: bool,

@@ -1,4 +1,6 @@
 // Rule 10: when a command is on.
+#![tactic(auto)]
+
 ghost use Rattle.std.specs.Prelude.{◌≡◌};
 ghost use Rattle.drive_shown.specs.Shown.{on_of};
 

@@ -1,8 +1,10 @@
 // The faults of a drive: which there are, and the output of each; the latch that holds one, whose functions are in `fault_latch`.
+#![tactic(auto)]
+
 ghost use Rattle.std.specs.Prelude.{◌≡◌};
 ghost use Rattle.fault.specs.Latches.{is_fault, long_or_none, field_of};
 
-#[derive(Drop)]
+#[derive(Clone, Copy)]
 pub enum Fault {
     NoFault,
     RunAway,
@@ -12,7 +14,7 @@ pub enum Fault {
 }
 
 // The fault that is latched, and the ticks that it has lasted, its first included, held at T8.
-#[derive(Drop)]
+#[derive(Clone, Copy)]
 pub struct Latch {
     pub fault: Fault,
     pub age: u32,

@@ -1,4 +1,6 @@
 // The latch of a drive's faults: reset, a new fault, its age, the trip of the drive's supply, and its limits.
+#![tactic(auto)]
+
 ghost use Rattle.std.specs.Prelude.{◌≡◌};
 ghost use Rattle.fault.specs.Latches.{trips_supply, reset_of, later_of, age_of, latched_of, supply_of, latch_within};
 

@@ -1,8 +1,10 @@
 // Files, read from their start or from where the last read ended, until a buffer is full.
+#![tactic(auto)]
+
 ghost use Rattle.io.specs.Counts.{IsPrefixLen};
 
 // How many bytes came, and whether a read failed after them.
-#[derive(Drop)]
+#[derive(Clone, Copy)]
 pub struct Filled {
     pub got: usize,
     pub failed: bool,

@@ -1,4 +1,6 @@
 // One tick of an image, by value.
+#![tactic(auto)]
+
 ghost use Rattle.std.specs.Prelude.{◌≡◌, false, List};
 ghost use Rattle.common.specs.Choice.{choose};
 ghost use Rattle.claim.specs.Claim.{Kept};
@@ -15,14 +17,14 @@ use slots::SLOTS;
 
 // The outputs, by field.
 #[repr(C)]
-#[derive(Drop)]
+#[derive(Clone, Copy)]
 pub struct Outputs {
     pub fields: [u32; FIELDS],
 }
 
 // What a tick answers, 0 or the refusal 4, and the next image.
 #[repr(C)]
-#[derive(Drop)]
+#[derive(Clone, Copy)]
 pub struct ImageTicked {
     pub refusal: u32,
     pub outputs: Outputs,
@@ -30,7 +32,7 @@ pub struct ImageTicked {
 }
 
 // The same but for the settings.
-#[derive(Drop)]
+#[derive(Clone, Copy)]
 pub struct Advanced {
     pub refusal: u32,
     pub outputs: Outputs,

@@ -1,4 +1,6 @@
 // The look ahead from an image, by value. It goes tick by tick over `hosting::advance`, as the host's own ticks do.
+#![tactic(auto)]
+
 ghost use Rattle.std.specs.Prelude.{◌≡◌, true};
 ghost use Rattle.common.specs.Choice.{choose};
 ghost use Rattle.rules.specs.Lists.{starts_on};
@@ -19,7 +21,7 @@ use ways::Way;
 // What a look ahead answers: 0, or the refusal 4 or 6; the tick, counted from 1, on which the first command begins, and the number of
 // its way; else 0 and 0. The outputs and the image are those after that tick, or after the last one of the horizon.
 #[repr(C)]
-#[derive(Drop)]
+#[derive(Clone, Copy)]
 pub struct ImageOutlook {
     pub refusal: u32,
     pub tick: u32,
@@ -29,7 +31,7 @@ pub struct ImageOutlook {
 }
 
 // One tick of the look: the command that it begins, whether the drive rests after it, its outputs and its numbers.
-#[derive(Drop)]
+#[derive(Clone, Copy)]
 struct Sight {
     way: Way,
     rests: bool,

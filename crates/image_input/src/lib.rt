@@ -1,4 +1,6 @@
 // What a tick brings, as the host hands it over.
+#![tactic(auto)]
+
 ghost use Rattle.std.specs.Prelude.{◌≡◌};
 ghost use Rattle.image_input.specs.Bringing.{reading_of, phasor_of, phasors_of, input_of};
 
@@ -9,7 +11,7 @@ use phasor::{Phasor, Phasors};
 // `quality`: 0 Good, 1 Held; any other number is Invalid, and `value` is not looked at. `value` is in V or A, and may be any
 // float.
 #[repr(C)]
-#[derive(Drop)]
+#[derive(Clone, Copy)]
 pub struct Sample {
     pub quality: u32,
     pub value: f32,
@@ -17,7 +19,7 @@ pub struct Sample {
 
 // The six readings, and then the real and the imaginary part of U_AB, I_bus and I_coupler.
 #[repr(C)]
-#[derive(Drop)]
+#[derive(Clone, Copy)]
 pub struct Brought {
     pub u_ab: Sample,
     pub u0: Sample,

@@ -1,11 +1,13 @@
 // The seven organs in numbers, and back.
+#![tactic(auto)]
+
 ghost use Rattle.std.specs.Prelude.{◌≡◌};
 ghost use Rattle.image_organs.specs.Places.{organ_numbers, organ_of, organs_of, are_marks};
 
 use organ::Organ;
 
 // The marks, 0 or 1, and the counts.
-#[derive(Drop)]
+#[derive(Clone, Copy)]
 pub struct OrganNumbers {
     pub marks: [u32; 7],
     pub counts: [u32; 7],

@@ -1,4 +1,6 @@
 // The state of an image, where its numbers are some state's.
+#![tactic(auto)]
+
 ghost use Rattle.std.specs.Prelude.{◌≡◌};
 ghost use Rattle.image.specs.Images.{is_state, state_of, numbers_in};
 

@@ -1,4 +1,6 @@
 // The image of a record: its numbers, with the settings.
+#![tactic(auto)]
+
 ghost use Rattle.std.specs.Prelude.{◌≡◌};
 ghost use Rattle.image.specs.Images.{way_numbers, numbers_of, image_with, image_of, taken_of, record_of};
 

@@ -1,4 +1,6 @@
 // What a tick brings: six readings, three pairs of readings, the contacts and keys, the BCD lines and the sensor byte.
+#![tactic(auto)]
+
 ghost use Rattle.std.specs.Prelude.{◌≡◌};
 ghost use Rattle.input.specs.Brought.{contacts_of, current_of};
 
@@ -6,7 +8,7 @@ use keys::{Buttons, Keys};
 use measure::{Channel, Measured, Reading};
 use phasor::Phasors;
 
-#[derive(Drop)]
+#[derive(Clone, Copy)]
 pub struct Input {
     pub u_ab: Reading,
     pub u0: Reading,
@@ -21,7 +23,7 @@ pub struct Input {
 }
 
 // The contacts and keys, in the order of their bits from bit 0 on, but for the mode, which stands last.
-#[derive(Drop)]
+#[derive(Clone, Copy)]
 pub struct Contacts {
     pub breaker_closed: bool,
     pub switching: bool,
@@ -46,7 +48,7 @@ pub struct Contacts {
 }
 
 // The six readings as they count, 3U0 being `u0`.
-#[derive(Drop)]
+#[derive(Clone, Copy)]
 pub struct Readings {
     pub u_ab: Measured,
     pub u0: Measured,

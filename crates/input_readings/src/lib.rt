@@ -1,4 +1,6 @@
 // What the six readings of a tick count as.
+#![tactic(auto)]
+
 ghost use Rattle.std.specs.Prelude.{◌≡◌};
 ghost use Rattle.input.specs.Brought.{readings_of};
 

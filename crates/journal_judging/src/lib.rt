@@ -1,4 +1,6 @@
 // The rules of a journal, a number at a time: stamp, field, value.
+#![tactic(auto)]
+
 ghost use Rattle.std.specs.Prelude.{◌≡◌, set};
 ghost use Rattle.journal.specs.Rules.{journal_start, highest_value, last_value, judged_stamp, judged_field, judged_value, judged_number};
 

@@ -1,4 +1,6 @@
 // The numbers of a journal, read from its text into a lent list.
+#![tactic(auto)]
+
 ghost use Rattle.std.specs.Prelude.{◌≡◌, true, ◌≤◌, ◌<◌, length, drop};
 ghost use Rattle.journal.specs.Rules.{journal_start};
 ghost use Rattle.journal.specs.Reading.{decoded_up_to, group_before, first_number, prefix_from, IsExtent, reader_answer, list_filled, list_after};

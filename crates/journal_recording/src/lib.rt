@@ -1,4 +1,6 @@
 // The recorder: what a tick adds to a journal, written into a lent list.
+#![tactic(auto)]
+
 ghost use Rattle.std.specs.Prelude.{◌≡◌, ◌+◌, ◌≤◌, length};
 ghost use Rattle.common.specs.Written.{Written};
 ghost use Rattle.journal_changes.specs.Changes.{change_of, changes_from, recorder_answer, list_recorded};

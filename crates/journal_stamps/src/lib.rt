@@ -1,4 +1,6 @@
 // Stamps, which run through 4,294,967,295 back to 0.
+#![tactic(auto)]
+
 ghost use Rattle.std.specs.Prelude.{◌≡◌};
 ghost use Rattle.journal.specs.Stamps.{ticks_between, is_later, stamp_after};
 

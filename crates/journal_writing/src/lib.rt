@@ -1,4 +1,6 @@
 // The text of a journal, written from its numbers into a lent buffer.
+#![tactic(auto)]
+
 ghost use Rattle.std.specs.Prelude.{◌≡◌, ◌+◌, ◌≤◌, leb, length};
 ghost use Rattle.common.specs.Written.{Written};
 ghost use Rattle.journal.specs.Rules.{journal_start, checked_from};

@@ -1,14 +1,15 @@
 // The keys of a tick: the buttons of the panel and those of the dispatcher, and the mode that chooses between them.
+#![tactic(auto)]
 
 // Which buttons of a pair are pressed.
-#[derive(Drop)]
+#[derive(Clone, Copy)]
 pub struct Buttons {
     pub raise: bool,
     pub lower: bool,
 }
 
 // The buttons on the panel, the dispatcher's, and whether remote mode is chosen.
-#[derive(Drop)]
+#[derive(Clone, Copy)]
 pub struct Keys {
     pub panel: Buttons,
     pub dispatcher: Buttons,

@@ -1,4 +1,6 @@
 // The lent record: the host lends its one regulator record, and finds it advanced.
+#![tactic(auto)]
+
 ghost use Rattle.std.specs.Prelude.{◌≡◌, List};
 ghost use Rattle.record_limits.specs.Limits.{within_of};
 ghost use Rattle.claim.specs.Claim.{Kept};

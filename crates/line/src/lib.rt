@@ -1,4 +1,6 @@
 // The voltage at the end of a line: U_AB as a pair, less the drop that the current makes along the line's impedance.
+#![tactic(auto)]
+
 ghost use Rattle.std.specs.Prelude.{◌≡◌, ◌≤◌, ◌^◌, nat_abs};
 ghost use Rattle.phasor.specs.Pairs.{Within};
 ghost use Rattle.busbar_current.specs.Current.{most_reading, most_current};

@@ -1,4 +1,6 @@
 // The current along the line, as a pair: slot 4 picks it of two, part by part.
+#![tactic(auto)]
+
 ghost use Rattle.std.specs.Prelude.{◌≡◌};
 ghost use Rattle.phasor.specs.Pairs.{Within};
 ghost use Rattle.busbar_current.specs.Current.{most_reading, picked_of};

@@ -1,7 +1,8 @@
 // Readings, and what they count as: the types, with their definitions in specs/ and the laws in proofs/. It has no code of its own.
+#![tactic(auto)]
 
 // What the module hands over: a number in V or A, fresh or held from before, or nothing.
-#[derive(Drop)]
+#[derive(Clone, Copy)]
 pub enum Reading {
     Good(f32),
     Held(f32),
@@ -9,7 +10,7 @@ pub enum Reading {
 }
 
 // What a reading counts as, in mV or mA. Missing: Invalid, or a number that is out of range.
-#[derive(Drop)]
+#[derive(Clone, Copy)]
 pub enum Measured {
     Good(u32),
     Held(u32),
@@ -17,7 +18,7 @@ pub enum Measured {
 }
 
 // What is measured: it sets the range. The current's range goes by the module's rated current.
-#[derive(Drop)]
+#[derive(Clone, Copy)]
 pub enum Channel {
     Voltage,
     Current1A,
@@ -25,7 +26,7 @@ pub enum Channel {
 }
 
 // A number of thousandths, or none where the reading's number is out of range.
-#[derive(Drop)]
+#[derive(Clone, Copy)]
 pub enum Converted {
     OutOfRange,
     Whole(u32),

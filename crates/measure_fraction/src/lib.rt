@@ -1,5 +1,7 @@
 // The second step of a reading's conversion, which alone sees the fraction: the range, and the nearest whole thousandth (mV, mA) of the
 // number, by its exact value.
+#![tactic(auto)]
+
 ghost use Rattle.std.specs.Prelude.{◌≡◌, T};
 ghost use Rattle.measure.specs.Exact.{in_range, thousandths};
 ghost use Rattle.measure.specs.Readings.{most_volts, limit_of, converted_of};

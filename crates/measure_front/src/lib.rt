@@ -1,4 +1,6 @@
 // The first step of a reading's conversion: it sees quality, sign and exponent, and no fraction.
+#![tactic(auto)]
+
 ghost use Rattle.std.specs.Prelude.{◌≡◌, false, ◌↔◌};
 ghost use Rattle.measure.specs.Fields.{number_fraction};
 ghost use Rattle.measure.specs.Readings.{limit_of};
@@ -8,7 +10,7 @@ ghost use Rattle.measure_front.specs.Judging.{Judges};
 use measure::{Channel, Reading};
 
 // How a reading was handed over.
-#[derive(Drop)]
+#[derive(Clone, Copy)]
 pub enum Quality {
     Good,
     Held,
@@ -16,7 +18,7 @@ pub enum Quality {
 }
 
 // What the module hands over before the fraction. Of an Invalid reading only the quality tells something.
-#[derive(Drop)]
+#[derive(Clone, Copy)]
 pub struct Front {
     pub quality: Quality,
     pub minus: bool,
@@ -24,7 +26,7 @@ pub struct Front {
 }
 
 // A sign and an exponent that passed the first step, and the channel that they passed for. Only this crate can make one.
-#[derive(Drop)]
+#[derive(Clone, Copy)]
 pub struct Passed {
     channel: Channel,
     minus: bool,
@@ -32,7 +34,7 @@ pub struct Passed {
 }
 
 // The first step's answer.
-#[derive(Drop)]
+#[derive(Clone, Copy)]
 pub enum Judged {
     Missing,
     Passed(Passed),

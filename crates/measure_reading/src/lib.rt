@@ -1,4 +1,6 @@
 // One measured reading: its front is judged first, and only what passes by its fraction.
+#![tactic(auto)]
+
 ghost use Rattle.std.specs.Prelude.{◌≡◌, ◌*◌};
 ghost use Rattle.measure.specs.Readings.{limit_of, number_of, measured_of, AtMost};
 ghost use Rattle.measure_reading.specs.Steps.{with_quality, counted_of};

@@ -1,9 +1,11 @@
 // The organs of rule 5: each keeps a mark and a count, and trips. One function steps an organ over a tick, one loop steps all seven.
+#![tactic(auto)]
+
 ghost use Rattle.std.specs.Prelude.{◌≡◌};
 ghost use Rattle.organ.specs.Organs.{over_of, under_of, mark_of, count_of, stepped_of, all_stepped_of};
 
 // What an organ keeps from tick to tick: its mark, and its count, the marked ticks in a row, held at the delay.
-#[derive(Drop)]
+#[derive(Clone, Copy)]
 pub struct Organ {
     pub marked: bool,
     pub count: u32,
@@ -11,7 +13,7 @@ pub struct Organ {
 
 // What a tick brings an organ. It is live if it is switched on, the section is there and its reading is not missing.
 // It is an under organ or else an over organ, with a reading, a set limit and a delay in ticks.
-#[derive(Drop)]
+#[derive(Clone, Copy)]
 pub struct OrganInput {
     pub live: bool,
     pub under: bool,
@@ -21,14 +23,14 @@ pub struct OrganInput {
 }
 
 // The organ after a tick, and whether it trips on that tick.
-#[derive(Drop)]
+#[derive(Clone, Copy)]
 pub struct Stepped {
     pub organ: Organ,
     pub trip: bool,
 }
 
 // The same of all seven.
-#[derive(Drop)]
+#[derive(Clone, Copy)]
 pub struct Organs {
     pub organs: [Organ; 7],
     pub trips: [bool; 7],

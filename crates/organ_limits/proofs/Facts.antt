@@ -63,7 +63,7 @@ held_on_lem false n d = omega arith
 count_from : (d n : ℕ) (o : Organ) (xs : List OrganInput) → Delayed d xs → o.count ≡ min n d → (run_of o xs).count ≡ min (row_from n o xs) d
 unfolding run_of row_from organ_of
 count_from d n o [] none p = p
-count_from d n o (x ∷ xs) (more e r) p = count_from d _ (organ_of o x) xs r (rw (p, e) (held_on_lem (mark_of o.marked x) n d))
+count_from d n o (x ∷ xs) (more e r) p = count_from d (choose (mark_of o.marked x) (n + 1) 0) (organ_of o x) xs r (rw (p, e) (held_on_lem (mark_of o.marked x) n d))
 
 -- it reaches the delay when the row does
 reaches : (n d : ℕ) (b : Bool) → leb d n ≡ b → leb d (min n d) ≡ b

@@ -1,4 +1,6 @@
 // The limits of the organs of a record.
+#![tactic(auto)]
+
 ghost use Rattle.std.specs.Prelude.{◌≡◌};
 ghost use Rattle.organ_limits.specs.Limits.{organ_within, organs_within};
 

@@ -1,5 +1,7 @@
 // A quantity as a pair, real and imaginary part: two readings, and signed whole thousandths (mV, mA) once both are Good and in
 // range.
+#![tactic(auto)]
+
 ghost use Rattle.std.specs.Prelude.{◌≡◌, ◌*◌, ◌≤◌, ◌^◌, nat_abs};
 ghost use Rattle.measure.specs.Readings.{limit_of};
 ghost use Rattle.phasor.specs.Pairs.{fresh_of, with_sign, part_of, paired_of, vector_of, Within};
@@ -9,14 +11,14 @@ use measure::{Channel, Converted, Reading};
 use measure_front::{Front, Judged, Quality};
 
 // What the module hands over: the two parts, in V or A.
-#[derive(Drop)]
+#[derive(Clone, Copy)]
 pub struct Phasor {
     pub re: Reading,
     pub im: Reading,
 }
 
 // The pairs that a tick brings.
-#[derive(Drop)]
+#[derive(Clone, Copy)]
 pub struct Phasors {
     pub u_ab: Phasor,
     pub i_bus: Phasor,
@@ -24,27 +26,27 @@ pub struct Phasors {
 }
 
 // The two numbers of a pair whose parts are both Good.
-#[derive(Drop)]
+#[derive(Clone, Copy)]
 struct Numbers {
     re: f32,
     im: f32,
 }
 
-#[derive(Drop)]
+#[derive(Clone, Copy)]
 enum Fresh {
     Missing,
     Both(Numbers),
 }
 
 // A part in signed thousandths, or none where its number is out of range.
-#[derive(Drop)]
+#[derive(Clone, Copy)]
 enum Part {
     OutOfRange,
     Whole(i64),
 }
 
 // What a pair counts as, in mV or mA.
-#[derive(Drop)]
+#[derive(Clone, Copy)]
 pub enum Vector {
     Missing,
     Is { re: i64, im: i64 },

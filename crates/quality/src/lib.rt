@@ -1,4 +1,6 @@
 // A reading by the number of its quality, as a host hands it over and as a recording has it.
+#![tactic(auto)]
+
 ghost use Rattle.std.specs.Prelude.{◌≡◌};
 ghost use Rattle.quality.specs.Quality.{reading_by};
 

@@ -1,4 +1,6 @@
 // The limits of a record. A record outside them is refused with 4.
+#![tactic(auto)]
+
 ghost use Rattle.std.specs.Prelude.{◌≡◌};
 ghost use Rattle.record.specs.Whole.{regulator_of};
 ghost use Rattle.record_limits.specs.Limits.{ticks_of, delays_of, kind_within, motion_within, press_within, counts_within, within_of};

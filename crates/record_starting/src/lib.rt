@@ -1,4 +1,6 @@
 // The record that a setting sheet gives: the fresh one, or one of zeros where the sheet is refused.
+#![tactic(auto)]
+
 ghost use Rattle.std.specs.Prelude.{◌≡◌, true, ◌↔◌};
 ghost use Rattle.sheet.specs.Settings.{Settings};
 ghost use Rattle.record_starting.specs.Starting.{local_keys, idle_of, fresh_state, fresh_of, zeros_of, started_of, replied_of, start_of};
@@ -16,7 +18,7 @@ use slots::{N_POS, N_START, SLOTS};
 use ways::Way;
 
 // The answer to a sheet, and the record that it gives.
-#[derive(Drop)]
+#[derive(Clone, Copy)]
 pub struct Started {
     pub answer: Answer,
     pub state: Regulator,

@@ -1,4 +1,6 @@
 // A line of numbers as text: decimal, split by single blanks.
+#![tactic(auto)]
+
 ghost use Rattle.std.specs.Prelude.{◌≡◌, ◌+◌, ◌*◌, ◌≤◌, ◌<◌, [], ◌∷◌, length, drop};
 ghost use Rattle.common.specs.Written.{Written};
 ghost use Rattle.recording_lines.specs.Lines.{widest, decimal_of, mark_of, line_of, written_of, end_of};

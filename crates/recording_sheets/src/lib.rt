@@ -1,4 +1,6 @@
 // A setting sheet from the bytes of its file.
+#![tactic(auto)]
+
 ghost use Rattle.std.specs.Prelude.{◌≡◌, length};
 ghost use Rattle.sheet.specs.Sheet.{number_of};
 ghost use Rattle.record_starting.specs.Starting.{replied_of, start_of};
@@ -12,7 +14,7 @@ use slots::SLOTS;
 pub const SHEET: usize = NUMBER * SLOTS;
 
 // Whether the file is as long as a sheet's, and its numbers, or zeros where it is not.
-#[derive(Drop)]
+#[derive(Clone, Copy)]
 pub struct SheetNumbers {
     pub whole: bool,
     pub numbers: [u32; SLOTS],

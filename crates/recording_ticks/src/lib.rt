@@ -1,4 +1,6 @@
 // One recorded tick from its bytes: the readings, the contacts, the BCD byte and the sensor byte.
+#![tactic(auto)]
+
 ghost use Rattle.std.specs.Prelude.{◌≡◌, ◌+◌, ◌≤◌, ◌<◌, length};
 ghost use Rattle.recording_ticks.specs.Recorded.{readings, reading_bytes, contacts_at, tick_bytes, reading_at, nth_reading, phasor_at, phasors_at, input_at, bad_place, decoded_of};
 
@@ -29,7 +31,7 @@ const SENSOR: usize = BCD + 1;
 pub const TICK: usize = SENSOR + 1;
 
 // What the bytes from a place on are: a tick; one whose first quality byte above 2 stands at this place of it; or too few.
-#[derive(Drop)]
+#[derive(Clone, Copy)]
 pub enum Decoded {
     Tick(Input),
     BadQuality { place: usize, byte: u8 },

@@ -1,5 +1,7 @@
 // One tick of the regulator: the rules in the paper's order. The settings are lent, as no tick changes them; the state goes by
 // value.
+#![tactic(auto)]
+
 ghost use Rattle.std.specs.Prelude.{◌≡◌, List};
 ghost use Rattle.record.specs.Whole.{regulator_of};
 ghost use Rattle.record_limits.specs.Limits.{within_of};

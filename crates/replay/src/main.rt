@@ -5,6 +5,8 @@
 // panel's, three of which are presses that were made while the drive ran; a change of mode drops nine others. `stdout` is what
 // that program prints of them.
 // The longest argument that Linux hands over has one byte less.
+#![tactic(auto)]
+
 const LONGEST: usize = 131_072;
 
 fn main() {

@@ -1,4 +1,6 @@
 // The ticks of a recording's bytes, played one after the other: each gives a line of its outputs.
+#![tactic(auto)]
+
 ghost use Rattle.std.specs.Prelude.{◌+◌, ◌*◌, ◌≤◌, ◌≡◌, length};
 ghost use Rattle.io.specs.Counts.{IsPrefixLen};
 ghost use Rattle.recording_ticks.specs.Recorded.{tick_bytes, decoded_of};
@@ -8,7 +10,7 @@ use record::Regulator;
 use recording_ticks::{Decoded, TICK};
 
 // After one tick: the next record, the end of the lines, and whether there was a tick.
-#[derive(Drop)]
+#[derive(Clone, Copy)]
 pub struct Stepped {
     pub next: Regulator,
     pub end: usize,
@@ -16,7 +18,7 @@ pub struct Stepped {
 }
 
 // After some ticks: the next record, the bytes that they took, and the end of their lines.
-#[derive(Drop)]
+#[derive(Clone, Copy)]
 pub struct Ran {
     pub next: Regulator,
     pub done: usize,

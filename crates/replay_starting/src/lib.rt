@@ -1,4 +1,6 @@
 // The sheet and its answer; and then the recording, where the sheet is taken.
+#![tactic(auto)]
+
 ghost use Rattle.replay_streamed.specs.Streamed.{Replayed};
 ghost use Rattle.replay_starting.specs.Started.{Answered, RunFrom};
 
@@ -11,14 +13,14 @@ use replay_streamed::Ended;
 use sheet::Answer;
 
 // The reply to the sheet's file, or to no bytes where it cannot be opened, and whether it could not be read.
-#[derive(Drop)]
+#[derive(Clone, Copy)]
 struct Read {
     failed: bool,
     started: Started,
 }
 
 // The reply to the sheet, and the run of the recording.
-#[derive(Drop)]
+#[derive(Clone, Copy)]
 pub struct Whole {
     pub started: Started,
     pub ended: Ended,

@@ -1,9 +1,11 @@
 // How far a run over a recording has come, chunk by chunk: types, and definitions with their laws (`specs/Streamed.antt`). The code is
 // crate `replay_streaming`.
+#![tactic(auto)]
+
 use record::Regulator;
 
 // After the ticks of a chunk: the next record, the bytes that they took, the end of their lines, and whether the lines were written.
-#[derive(Drop)]
+#[derive(Clone, Copy)]
 pub struct Written {
     pub next: Regulator,
     pub done: usize,
@@ -12,7 +14,7 @@ pub struct Written {
 }
 
 // After a chunk: its run, the bytes that were read, and whether the whole run is over.
-#[derive(Drop)]
+#[derive(Clone, Copy)]
 pub struct Advanced {
     pub ran: Written,
     pub got: usize,
@@ -20,7 +22,7 @@ pub struct Advanced {
 }
 
 // After all chunks: the run of the last one, the bytes that were read for it, and where it starts in the file.
-#[derive(Drop)]
+#[derive(Clone, Copy)]
 pub struct Ended {
     pub ran: Written,
     pub got: usize,

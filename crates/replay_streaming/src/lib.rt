@@ -1,4 +1,6 @@
 // The recording, streamed: some ticks are read, run and their lines written, and then the next ones.
+#![tactic(auto)]
+
 ghost use Rattle.std.specs.Prelude.{◌+◌, ◌*◌, ◌≤◌, ◌≡◌, length};
 ghost use Rattle.recording_ticks.specs.Recorded.{tick_bytes};
 ghost use Rattle.replay_playing.specs.Played.{line_room, played_to, played_of};

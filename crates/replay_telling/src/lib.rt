@@ -1,4 +1,6 @@
 // What is told of a run on standard error, a line each.
+#![tactic(auto)]
+
 use libc::STDERR_FILENO;
 use recording_ticks::Decoded;
 

@@ -1,4 +1,6 @@
 // The whole part of a square root.
+#![tactic(auto)]
+
 ghost use Rattle.std.specs.Prelude.{◌≡◌, ◌+◌, ◌<◌, ◌^◌};
 ghost use Rattle.root.specs.Roots.{root_of, Root, with_step};
 

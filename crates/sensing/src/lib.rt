@@ -1,4 +1,6 @@
 // Rules 3 to 6: what is there. Each rule, called with what it needs of the record, the sheet and the rules before it.
+#![tactic(auto)]
+
 ghost use Rattle.std.specs.Prelude.{◌≡◌};
 ghost use Rattle.sensing.specs.Sensing.{sensed_of};
 
@@ -8,7 +10,7 @@ use sensing_assessing::Assessed;
 use sensing_observing::Observed;
 use slots::SLOTS;
 
-#[derive(Drop)]
+#[derive(Clone, Copy)]
 pub struct Sensed {
     pub observed: Observed,
     pub organs: Organs,

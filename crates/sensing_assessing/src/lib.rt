@@ -1,4 +1,6 @@
 // Rule 6: the voltage against the band around U_supp.
+#![tactic(auto)]
+
 ghost use Rattle.std.specs.Prelude.{◌≡◌};
 ghost use Rattle.sensing_assessing.specs.Assessing.{u_of, assessed_of};
 
@@ -9,7 +11,7 @@ use phasor::Phasors;
 use slots::{COMPENSATION, SLOTS};
 
 // The voltage's level; `far`: above U_set5.
-#[derive(Drop)]
+#[derive(Clone, Copy)]
 pub struct Assessed {
     pub level: Level,
     pub far: bool,

@@ -1,4 +1,6 @@
 // What the tick brings, as it counts; rule 3, the section; rule 4, the tap.
+#![tactic(auto)]
+
 ghost use Rattle.std.specs.Prelude.{◌≡◌};
 ghost use Rattle.sensing_observing.specs.Observing.{observed_of};
 
@@ -6,7 +8,7 @@ use input::{Input, Readings};
 use slots::{MODULE, SLOTS};
 use tap_position::Position;
 
-#[derive(Drop)]
+#[derive(Clone, Copy)]
 pub struct Observed {
     pub readings: Readings,
     pub section: bool,

@@ -1,4 +1,6 @@
 // Rule 5: the seven organs.
+#![tactic(auto)]
+
 ghost use Rattle.std.specs.Prelude.{◌≡◌, ◌<◌};
 ghost use Rattle.sensing_protecting.specs.Protecting.{amount_of, missing_of, organ_input_of, protected_of};
 

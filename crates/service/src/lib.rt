@@ -1,5 +1,7 @@
 // The library for what the sealed unit does not run, for a host in C or Rust: the journal's text. `c/avr_service.h` has the same
 // declarations for C.
+#![tactic(auto)]
+
 ghost use Rattle.std.specs.Prelude.{◌≡◌, length};
 ghost use Rattle.journal.specs.Texts.{writer_answer, buffer_after};
 ghost use Rattle.journal.specs.Reading.{reader_answer, list_after};

@@ -1,11 +1,13 @@
 // The setting sheet: what the check of a list answers, by number and slot; the check itself is in `sheet_judging`.
+#![tactic(auto)]
+
 ghost use Rattle.std.specs.Prelude.{◌≡◌};
 ghost use Rattle.sheet.specs.Sheet.{number_of, slot_of, is_taken};
 
 use slots::{CONTINUOUS, SLOTS};
 
 // What the check of a list answers.
-#[derive(Drop)]
+#[derive(Clone, Copy)]
 pub enum Answer {
     Taken,
     WrongLength,
@@ -16,7 +18,7 @@ pub enum Answer {
 }
 
 // The answer, with the list where it is taken, and zeros elsewhere.
-#[derive(Drop)]
+#[derive(Clone, Copy)]
 pub struct Sheet {
     pub answer: Answer,
     pub settings: [u32; SLOTS],

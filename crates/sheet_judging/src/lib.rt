@@ -1,5 +1,7 @@
 // The check of a setting sheet: each number against its range, then the order of the taps, and then whether the taps can be
 // counted.
+#![tactic(auto)]
+
 ghost use Rattle.std.specs.Prelude.{◌≡◌, ◌↔◌, length};
 ghost use Rattle.slots.specs.Slots.{slots};
 ghost use Rattle.sheet.specs.Sheet.{judge_of, passes_of, sheet_with, sheet_of, reply_of, returned_of};

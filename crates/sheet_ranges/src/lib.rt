@@ -1,4 +1,6 @@
 // The ranges of the setting sheet: low, high and step of each slot, and one loop that checks every slot.
+#![tactic(auto)]
+
 mod ranges;
 
 ghost use Rattle.std.specs.Prelude.{◌≡◌, ◌≤◌, true, ◌||◌, eqb};

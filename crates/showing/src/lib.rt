@@ -1,4 +1,6 @@
 // The outputs, by field.
+#![tactic(auto)]
+
 ghost use Rattle.std.specs.Prelude.{◌≡◌};
 ghost use Rattle.showing.specs.Showing.{is_low, is_high, counted_of, signals_of, fields_of, outputs_of};
 
@@ -13,7 +15,7 @@ use tap_position::Position;
 pub const FIELDS: usize = 28;
 
 // What the outputs show. `counted_error`: the counted tap stepped past an end; `before`: the fault's age before this tick.
-#[derive(Drop)]
+#[derive(Clone, Copy)]
 pub struct Shown {
     pub automatic: bool,
     pub section: bool,
@@ -58,7 +60,7 @@ fn shown_operations(counts: bool, n: u32) -> u32
 }
 
 // What the outputs show of the command, the level, the fault and the drive. `field`: that of the latched fault, 0 for none.
-#[derive(Drop)]
+#[derive(Clone, Copy)]
 struct Signals {
     raise: bool,
     lower: bool,

@@ -1,4 +1,6 @@
 // The slots of the setting sheet, by name. A run of slots has the name of its first; `specs/Slots.antt` has the same names.
+#![tactic(auto)]
+
 pub const SLOTS: usize = 68;
 
 pub const IN_SERVICE: usize = 0;

@@ -1,4 +1,6 @@
 // Rule 7: the counted tap's step at the end of a tick on which a move ended.
+#![tactic(auto)]
+
 ghost use Rattle.std.specs.Prelude.{◌≡◌};
 ghost use Rattle.tap_counted.specs.Counted.{up_of, down_of, is_up, step_of, moved_of, counted_of};
 
@@ -6,7 +8,7 @@ use slots::{N_L, N_R, SLOTS, TAP_SOURCE};
 use ways::{Direction, Way};
 
 // The counted tap after the tick; range error where the step was past an end.
-#[derive(Drop)]
+#[derive(Clone, Copy)]
 pub struct Counted {
     pub tap: u32,
     pub range_error: bool,

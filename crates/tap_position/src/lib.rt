@@ -1,11 +1,13 @@
 // Rule 4: the tap, from the source that slot 5 names.
+#![tactic(auto)]
+
 ghost use Rattle.std.specs.Prelude.{◌≡◌};
 ghost use Rattle.tap_position.specs.Positions.{ranged_of, bcd_of, position_of};
 
 use slots::{N_L, N_R, SLOTS, TAP_SOURCE};
 
 // The tap's number, 0 where there is none, with what is wrong about it.
-#[derive(Drop)]
+#[derive(Clone, Copy)]
 pub struct Position {
     pub tap: u32,
     pub wrong_code: bool,

@@ -1,4 +1,6 @@
 // The sliding taps, at which the drive may close its contact by itself.
+#![tactic(auto)]
+
 ghost use Rattle.std.specs.Prelude.{◌≡◌};
 ghost use Rattle.tap_sliding.specs.Sliding.{sliding_of};
 

@@ -7,7 +7,7 @@ use measure::Reading;
 use recording_numbers::float_of;
 
 // After some turns: where the row of such numbers goes on, and the checksum, which is below 1,000,003.
-#[derive(Drop)]
+#[derive(Clone, Copy)]
 pub(crate) struct Turn {
     pub(crate) seed: u64,
     pub(crate) sum: u64,

@@ -1,6 +1,8 @@
 // Worked values of the readings and of their first step, of pairs, of roots, of the drops along a line and by U_comp, of the setting
 // sheet and of the tap. `stdin` has their rows, and says how a row is written. `stdout` has what the second program,
 // `rust/reference`, prints of the same values, so a run that differs shows that one of the two programs is wrong.
+#![tactic(auto)]
+
 mod chance;
 mod drops;
 mod print;

@@ -14,7 +14,7 @@ const COMMENT: u8 = 3;
 
 // The last letter of a row; its numbers, after those that are kept, and which of them are below 0; the last number, whole; where the
 // row starts and where its bar stands. Then what is known of a number that is not at its end.
-#[derive(Drop)]
+#[derive(Clone, Copy)]
 pub(crate) struct Row {
     pub(crate) kind: u8,
     pub(crate) numbers: [u32; MOST],

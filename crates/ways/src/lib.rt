@@ -1,15 +1,17 @@
 // Directions: which a way is, and the newer of two. The low side is the one that a raise answers, so they are sides too.
+#![tactic(auto)]
+
 ghost use Rattle.std.specs.Prelude.{◌≡◌};
 ghost use Rattle.ways.specs.Ways.{raises, lowers, is_to, newer_of, other_of};
 
-#[derive(Drop)]
+#[derive(Clone, Copy)]
 pub enum Direction {
     Raise,
     Lower,
 }
 
 // A direction, or none.
-#[derive(Drop)]
+#[derive(Clone, Copy)]
 pub enum Way {
     Neither,
     To(Direction),
