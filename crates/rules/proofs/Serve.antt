@@ -162,6 +162,7 @@ command_decided t =
     (begins_decided Raise t)
 
 some_command : (side : Direction) (l : List Tick) → Some (Begins side) l → Some Command l
+some_command side [] x' = elim x' [ ]
 some_command Raise (t ∷ l) (inl b) = inl (inl b)
 some_command Lower (t ∷ l) (inl b) = inl (inr b)
 some_command side (t ∷ l) (inr s) = inr (some_command side l s)
