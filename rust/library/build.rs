@@ -1,4 +1,4 @@
-//! Links the archives that `rt staticlib` writes, from AVR_LIB or the repository's target/staticlib.
+//! Links the archives that `tools/build` writes, from AVR_LIB or the repository's target/staticlib.
 
 use std::env;
 use std::path::PathBuf;
@@ -16,7 +16,7 @@ fn main() {
         println!("cargo:rerun-if-changed={}", archive.display());
         if !archive.is_file() {
             eprintln!("error: the proved library {} is missing", archive.display());
-            eprintln!("run `rt staticlib {name}` in the repository's folder, or name the folder of lib{name}.a in AVR_LIB");
+            eprintln!("run `tools/build {name}` in the repository's folder, or name the folder of lib{name}.a in AVR_LIB");
             exit(1);
         }
         println!("cargo:rustc-link-lib=static={name}");

@@ -27,7 +27,7 @@ use Rattle.rules.specs.Acting.{acted_of}
 use Rattle.rules.specs.Lists.{left_by, starts_on}
 use Rattle.rules.specs.Ticks.{is_out}
 use Rattle.rules.proofs.Shown.{contacts_at}
-use Rattle.rules.proofs.Steps.{next_at, settings_kept, within_kept}
+use Rattle.rules.proofs.Steps.{next_at, rest_at, settings_kept, within_kept}
 use Rattle.history.specs.Kept.{Each}
 use Rattle.history.specs.Pasts.{Past, past_on, pasts_from, Out}
 use Rattle.history.specs.Memories.{upward, downward, ups_of, downs_of}
@@ -125,7 +125,7 @@ taps_from : (rest : Bool) (r : Regulator) (is : List Input) → within_of r ≡ 
 taps_from rest r [] h s e c n = refl
 taps_from rest r (i ∷ is) h s e c n =
     let t = tap_step rest r i h (not_out_lem r i rest n.0) s e c in
-    let g = taps_from _ (next_at r i) is (within_kept r i ∙ h) s (settings_kept r i ∙ e) c n.1 in
+    let g = taps_from (rest_at r i) (next_at r i) is (within_kept r i ∙ h) s (settings_kept r i ∙ e) c n.1 in
     omega arith
 
 -- the tap after the list and the steps down are together the tap before and the steps up
