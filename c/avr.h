@@ -378,7 +378,8 @@ avr_ticked avr_tick_by_value(avr_image image, avr_brought brought);
  *
  * It takes as long as so many ticks, up to the command. Over the longest
  * horizon these are 100 to 120 million instructions, 6 to 9 ms on a desktop
- * processor: more than the 5 ms from one tick to the next. So a host that
+ * processor (measured with the toolchain rattle-kit-5b): more than the 5 ms
+ * from one tick to the next. So a host that
  * ticks calls it on a copy of its image, from another thread, or over a
  * shorter horizon and looks on from `next`.
  */
