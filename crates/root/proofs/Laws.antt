@@ -1,19 +1,15 @@
 -- The root by its sentence, how the code comes to it, and what follows for its users.
 -- Assumes nothing.
 use mathlib.Core.Path.{◌≡◌, refl, sym, ap, ◌∙◌, subst}
-use mathlib.Core.Bool.{Bool, true, false, true≢false}
 use mathlib.Core.Logic.{inl, inr}
 use Prim.Native.Nat.{ℕ, zero, suc, ◌+◌, ◌-◌, ◌*◌, ◌%◌, ◌<◌, ◌≤◌, ◌^◌}
-use native.Mathlib.Nat.{le_refl, le_trans, le_of_eq, lt_of_le_of_lt, lt_of_lt_of_le, mul-le-mul, add_assoc, eq-zero-or-pos, mul-one, one-mul, mod-eq_of_lt, pow-suc, mul_comm, two-mul, eq-or-lt_of_le, not-suc-le-zero}
+use native.Mathlib.Nat.{le_refl, le_trans, le_of_eq, lt_of_le_of_lt, mul-le-mul, eq-zero-or-pos, mul-one, one-mul, mod-eq_of_lt, pow-suc, mul_comm, two-mul, eq-or-lt_of_le}
 use native.Mathlib.Omega.{arith}
-use borrow.Author.Rules.{rules}
 use borrow.Author.Tests.{le-leb, lt-leb, leb-true, leb-false}
-use lib.Dec.{leb}
 use lib.Pow.{pow_pos, pow-lt}
 use mir.Val.{Fits}
 use mir.Syntax.{w64}
 use mir.Facts.{Fits-le, Fits-lit}
-use Rattle.common.specs.Choice.{choose}
 use Rattle.common.proofs.Cases.{yes, no, chosen, cases}
 use Rattle.root.specs.Roots.{largest_up_to, square_within, root_of, Root, with_step}
 

@@ -12,6 +12,7 @@ use ranges::{HIGH, LOW, STEP};
 use slots::{I_SET1, I_SET2, I_SET3, MODULE, REACTANCE, RESISTANCE, SLOTS};
 
 // k, the factor of the current rows: 5 for a 5 A module, else 1.
+#[tactic(auto, using(common::proofs::Cases::cases), unfolding(crate::specs::Table::module_factor))]
 pub fn module_factor(s: &[u32; SLOTS]) -> u32
     ensures { result ≡ module_factor s.now }
 {
