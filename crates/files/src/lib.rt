@@ -1,7 +1,11 @@
 // Files, read from their start or from where the last read ended, until a buffer is full.
 #![tactic(auto)]
 
-ghost use Rattle.io.specs.Counts.{IsPrefixLen};
+ghost use Rattle.files.specs.Counts.{IsPrefixLen};
+
+use std::fs::File;
+use std::io::Read;
+use std::rt::Files;
 
 // How many bytes came, and whether a read failed after them.
 #[derive(Clone, Copy)]
@@ -11,17 +15,19 @@ pub struct Filled {
 }
 
 // Reads until the buffer is full, the file ends or a read fails. A read may bring less than is asked for.
-pub fn fill(fd: i32, buffer: &mut [u8]) -> Filled
+pub fn fill<F: Read>(file: &mut F, buffer: &mut [u8]) -> Filled
     ensures { IsPrefixLen result.got buffer.new }
 {
     let mut done: usize = 0;
     while done < buffer.len() {
-        let answer = libc::read(fd, &mut buffer[done..]);
-        let more = io::count(answer, &buffer[done..]);
+        let (more, failed) = match file.read(&mut buffer[done..]) {
+            Ok(more) => (more, false),
+            Err(_) => (0, true),
+        };
         if more == 0 {
             return Filled {
                 got: done,
-                failed: answer < 0,
+                failed: failed,
             };
         }
         done += more;
@@ -32,18 +38,24 @@ pub fn fill(fd: i32, buffer: &mut [u8]) -> Filled
     }
 }
 
+// The file of this name, to be read. No file has a name that is not UTF-8.
+pub fn open<R: Files>(rt: &R, path: &[u8]) -> Option<R::File> {
+    let name = str::from_utf8(path).ok()?;
+    File::open(rt, name).ok()
+}
+
 // The file of this name from its start on. One that cannot be opened brings nothing, and counts as a read that failed.
-pub fn read_file(path: &[u8], buffer: &mut [u8]) -> Filled
+pub fn read_file<R: Files>(rt: &R, path: &[u8], buffer: &mut [u8]) -> Filled
     ensures { IsPrefixLen result.got buffer.new }
 {
-    let fd = os::open_read(path);
-    if fd < 0 {
-        return Filled {
+    match open(rt, path) {
+        Some(file) => {
+            let mut file = file;
+            fill(&mut file, buffer)
+        }
+        None => Filled {
             got: 0,
             failed: true,
-        };
+        },
     }
-    let filled = fill(fd, buffer);
-    libc::close(fd);
-    filled
 }

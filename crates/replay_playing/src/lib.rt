@@ -2,7 +2,7 @@
 #![tactic(auto)]
 
 ghost use Rattle.std.specs.Prelude.{◌+◌, ◌*◌, ◌≤◌, ◌≡◌, length};
-ghost use Rattle.io.specs.Counts.{IsPrefixLen};
+ghost use Rattle.files.specs.Counts.{IsPrefixLen};
 ghost use Rattle.recording_ticks.specs.Recorded.{tick_bytes, decoded_of};
 ghost use Rattle.replay_playing.specs.Played.{line_room, step_of, lines_of, played_to, played_of};
 

@@ -4,13 +4,14 @@
 ghost use Rattle.replay_streamed.specs.Streamed.{Replayed};
 ghost use Rattle.replay_starting.specs.Started.{Answered, RunFrom};
 
-use libc::STDOUT_FILENO;
 use record::Regulator;
 use record_starting::Started;
 use recording_lines::WIDEST;
 use recording_sheets::SHEET;
 use replay_streamed::Ended;
 use sheet::Answer;
+use std::io;
+use std::rt::Files;
 
 // The reply to the sheet's file, or to no bytes where it cannot be opened, and whether it could not be read.
 #[derive(Clone, Copy)]
@@ -27,11 +28,11 @@ pub struct Whole {
 }
 
 // One byte more than a sheet has is asked for, so that a longer file shows.
-fn open_sheet(path: &[u8]) -> Read
+fn open_sheet<R: Files>(rt: &R, path: &[u8]) -> Read
     ensures { Answered result.started }
 {
     let mut bytes = [0u8; SHEET + 1];
-    let filled = files::read_file(path, &mut bytes);
+    let filled = files::read_file(rt, path, &mut bytes);
     let got = filled.got;
     let started = recording_sheets::start(&bytes[..got]);
     Read {
@@ -41,60 +42,73 @@ fn open_sheet(path: &[u8]) -> Read
 }
 
 // `0 0`, or the refusal's number and slot. Answers whether the line was written.
-fn print_answer(a: Answer) -> bool {
+fn print_answer<R: Print>(rt: &R, a: Answer) -> bool {
     let numbers = [sheet::number(a), sheet::slot(a)];
     let mut line = [0u8; 2 * WIDEST];
     let end = recording_lines::write_line(&numbers, &mut line, 0);
-    io::write_all(STDOUT_FILENO, &line[..end])
+    rt.write_all(&line[..end]).is_ok()
 }
 
 // The answer, and then the recording's lines.
-fn print_run(fd: i32, path: &[u8], answer: Answer, state: Regulator) -> Ended
+fn print_run<R: Print, E: Print, F: io::Read>(
+    rt: &R,
+    err: &E,
+    file: &mut F,
+    path: &[u8],
+    answer: Answer,
+    state: Regulator,
+) -> Ended
     ensures { Replayed state result }
 {
-    if print_answer(answer) {
-        return replay_streaming::run_all(fd, path, state);
+    if print_answer(rt, answer) {
+        return replay_streaming::run_all(rt, err, file, path, state);
     }
-    replay_telling::cannot_write();
+    replay_telling::cannot_write(err);
     replay_streaming::run_none(state)
 }
 
 // The recording of a sheet that is taken.
-fn run(path: &[u8], answer: Answer, state: Regulator) -> Ended
+fn run<R: Files + Print, E: Print>(
+    rt: &R,
+    err: &E,
+    path: &[u8],
+    answer: Answer,
+    state: Regulator,
+) -> Ended
     ensures { Replayed state result }
 {
-    let fd = os::open_read(path);
-    if fd < 0 {
-        replay_telling::cannot_read(path);
-        return replay_streaming::run_none(state);
+    match files::open(rt, path) {
+        Some(mut file) => print_run(rt, err, &mut file, path, answer, state),
+        None => {
+            replay_telling::cannot_read(err, path);
+            replay_streaming::run_none(state)
+        }
     }
-    let ended = print_run(fd, path, answer, state);
-    libc::close(fd);
-    ended
 }
 
 // What was read of the sheet.
-fn go_on(recording: &[u8], started: Started) -> Ended
+fn go_on<R: Files + Print, E: Print>(rt: &R, err: &E, recording: &[u8], started: Started) -> Ended
     ensures { RunFrom started result }
 {
     let answer = started.answer;
     let state = started.state;
     if sheet::taken(answer) {
-        return run(recording, answer, state);
+        return run(rt, err, recording, answer, state);
     }
-    if !print_answer(answer) {
-        replay_telling::cannot_write();
+    if !print_answer(rt, answer) {
+        replay_telling::cannot_write(err);
     }
     replay_streaming::run_none(state)
 }
 
-pub fn replay(sheet: &[u8], recording: &[u8]) -> Whole
+// What is printed goes to `rt`, and what is told of the run to `err`.
+pub fn replay<R: Files + Print, E: Print>(rt: &R, err: &E, sheet: &[u8], recording: &[u8]) -> Whole
     ensures { Answered result.started × RunFrom result.started result.ended }
 {
-    let read = open_sheet(sheet);
+    let read = open_sheet(rt, sheet);
     let started = read.started;
     if read.failed {
-        replay_telling::cannot_read(sheet);
+        replay_telling::cannot_read(err, sheet);
         let state = started.state;
         let ended = replay_streaming::run_none(state);
         return Whole {
@@ -102,7 +116,7 @@ pub fn replay(sheet: &[u8], recording: &[u8]) -> Whole
             ended: ended,
         };
     }
-    let ended = go_on(recording, started);
+    let ended = go_on(rt, err, recording, started);
     Whole {
         started: started,
         ended: ended,

@@ -6,12 +6,12 @@ ghost use Rattle.recording_ticks.specs.Recorded.{tick_bytes};
 ghost use Rattle.replay_playing.specs.Played.{line_room, played_to, played_of};
 ghost use Rattle.replay_streamed.specs.Streamed.{chunk_bytes, Chunk, Streamed, Replayed};
 
-use libc::STDOUT_FILENO;
 use record::Regulator;
 use recording_lines::WIDEST;
 use recording_ticks::TICK;
 use replay_streamed::{Advanced, Ended, Written};
 use showing::FIELDS;
+use std::io::Read;
 
 // Ticks that are read at once.
 const TICKS: usize = 64;
@@ -25,14 +25,14 @@ const LINES: usize = TICKS * FIELDS * WIDEST;
 const TURNS: u64 = u64::MAX / CHUNK as u64;
 
 // Runs a chunk and writes its lines.
-fn run_chunk(state: Regulator, bytes: &[u8], lines: &mut [u8]) -> Written
+fn run_chunk<R: Print>(rt: &R, state: Regulator, bytes: &[u8], lines: &mut [u8]) -> Written
     requires { line_room * length bytes.now ≤ tick_bytes * length lines.old }
     ensures { played_to result.next result.done result.end lines.new ≡ played_of state bytes.now }
 {
     let ran = replay_playing::run_ticks(state, bytes, lines);
     let end = ran.end;
     let next = ran.next;
-    let written = io::write_all(STDOUT_FILENO, &lines[..end]);
+    let written = rt.write_all(&lines[..end]).is_ok();
     Written {
         next: next,
         done: ran.done,
@@ -42,8 +42,10 @@ fn run_chunk(state: Regulator, bytes: &[u8], lines: &mut [u8]) -> Written
 }
 
 // The next chunk of the file, which starts at the offset. One that is not full is the last.
-fn run_some(
-    fd: i32,
+fn run_some<R: Print, E: Print, F: Read>(
+    rt: &R,
+    err: &E,
+    file: &mut F,
     path: &[u8],
     state: Regulator,
     offset: u64,
@@ -53,11 +55,11 @@ fn run_some(
     requires { line_room * length space.old ≤ tick_bytes * length lines.old }
     ensures { Chunk state space.new lines.new result }
 {
-    let filled = files::fill(fd, space);
+    let filled = files::fill(file, space);
     let got = filled.got;
-    let ran = run_chunk(state, &space[..got], lines);
+    let ran = run_chunk(rt, state, &space[..got], lines);
     if !ran.written {
-        replay_telling::cannot_write();
+        replay_telling::cannot_write(err);
         return Advanced {
             ran: ran,
             got: got,
@@ -71,7 +73,7 @@ fn run_some(
             over: false,
         };
     }
-    replay_telling::report(path, &space[..got], ran.done, offset, filled.failed);
+    replay_telling::report(err, path, &space[..got], ran.done, offset, filled.failed);
     Advanced {
         ran: ran,
         got: got,
@@ -80,7 +82,15 @@ fn run_some(
 }
 
 // A proved loop has to end, and nothing says that a file does. So it counts its turns down, from a number that no run uses up.
-fn run_chunks(fd: i32, path: &[u8], state: Regulator, space: &mut [u8], lines: &mut [u8]) -> Ended
+fn run_chunks<R: Print, E: Print, F: Read>(
+    rt: &R,
+    err: &E,
+    file: &mut F,
+    path: &[u8],
+    state: Regulator,
+    space: &mut [u8],
+    lines: &mut [u8],
+) -> Ended
     requires { (length space.old ≡ chunk_bytes) × (line_room * chunk_bytes ≤ tick_bytes * length lines.old) }
     ensures { Streamed state space.new lines.new result }
 {
@@ -89,7 +99,7 @@ fn run_chunks(fd: i32, path: &[u8], state: Regulator, space: &mut [u8], lines: &
     let mut turns = TURNS;
     while turns > 0 {
         let start = next;
-        let advanced = run_some(fd, path, start, offset, space, lines);
+        let advanced = run_some(rt, err, file, path, start, offset, space, lines);
         let ran = advanced.ran;
         let reached = ran.next;
         if advanced.over {
@@ -131,11 +141,17 @@ pub fn run_none(state: Regulator) -> Ended
     }
 }
 
-// All of the file, with room for one chunk and its lines.
-pub fn run_all(fd: i32, path: &[u8], state: Regulator) -> Ended
+// All that is left of the file, with room for one chunk and its lines.
+pub fn run_all<R: Print, E: Print, F: Read>(
+    rt: &R,
+    err: &E,
+    file: &mut F,
+    path: &[u8],
+    state: Regulator,
+) -> Ended
     ensures { Replayed state result }
 {
     let mut space = [0u8; CHUNK];
     let mut lines = [0u8; LINES];
-    run_chunks(fd, path, state, &mut space, &mut lines)
+    run_chunks(rt, err, file, path, state, &mut space, &mut lines)
 }

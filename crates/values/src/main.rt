@@ -12,9 +12,9 @@ mod sheets;
 
 use busbar_current::Value;
 use chance::Turn;
-use libc::STDIN_FILENO;
 use measure::Reading;
 use rows::Row;
+use std::io;
 
 // What is asked of a row, where it is one value.
 fn value_of(r: Row) -> Value {
@@ -35,57 +35,62 @@ fn value_of(r: Row) -> Value {
 const BYTES: usize = 256;
 
 // One turn of a row that has many.
-fn turned(bytes: &[u8], r: Row, t: Turn, i: usize) -> Turn {
+fn turned<R: Print>(rt: &R, bytes: &[u8], r: Row, t: Turn, i: usize) -> io::Result<Turn> {
     let kind = r.kind;
     match kind {
-        b'f' => readings::print_front(r, (i % BYTES) as u8),
-        b'b' => sheets::print_code(bytes, r, (i % BYTES) as u8),
-        b't' => return sheets::tried(bytes, r, t, i),
-        _ => return chance::generated(kind, i as u64, t),
+        b'f' => readings::print_front(rt, r, (i % BYTES) as u8)?,
+        b'b' => sheets::print_code(rt, bytes, r, (i % BYTES) as u8)?,
+        b't' => return sheets::tried(rt, bytes, r, t, i),
+        _ => return Ok(chance::generated(kind, i as u64, t)),
     }
-    t
+    Ok(t)
 }
 
-fn print_turns(bytes: &[u8], r: Row, turns: usize) -> Turn {
+fn print_turns<R: Print>(rt: &R, bytes: &[u8], r: Row, turns: usize) -> io::Result<Turn> {
     let mut t = chance::START;
     let mut i: usize = 0;
     while i < turns {
-        t = turned(bytes, r, t, i);
+        t = turned(rt, bytes, r, t, i)?;
         i += 1;
     }
-    t
+    Ok(t)
 }
 
 // What a row prints. One that keeps or sets numbers, and one without a letter, print nothing.
-fn print_row(bytes: &[u8], r: Row) {
+fn print_row<R: Print>(rt: &R, bytes: &[u8], r: Row) -> io::Result<()> {
     let kind = r.kind;
     match kind {
         b'-' | b'k' | b'c' => {}
-        b's' => sheets::print_answer(bytes, r),
+        b's' => sheets::print_answer(rt, bytes, r)?,
         b't' => {
-            print_turns(bytes, r, sheets::TURNS);
+            print_turns(rt, bytes, r, sheets::TURNS)?;
         }
         b'b' => {
-            print_turns(bytes, r, BYTES);
+            print_turns(rt, bytes, r, BYTES)?;
         }
         b'f' => {
-            rows::print_text(bytes, r);
-            print_turns(bytes, r, BYTES);
-            print::text(b"\n");
+            rows::print_text(rt, bytes, r)?;
+            print_turns(rt, bytes, r, BYTES)?;
+            print::text(rt, b"\n")?;
         }
         b'R' | b'P' | b'A' | b'D' => {
-            rows::print_text(bytes, r);
-            print::last(print_turns(bytes, r, r.numbers[0] as usize).sum);
+            rows::print_text(rt, bytes, r)?;
+            let t = print_turns(rt, bytes, r, r.numbers[0] as usize)?;
+            print::last(rt, t.sum)?;
         }
         _ => {
-            rows::print_text(bytes, r);
-            print::value(value_of(r));
+            rows::print_text(rt, bytes, r)?;
+            print::value(rt, value_of(r))?;
         }
     }
+    Ok(())
 }
 
-fn main() {
-    let mut space = io::large_buffer();
-    let got = io::read_full(STDIN_FILENO, &mut space);
-    rows::print_rows(&space[..got]);
+// The most bytes of the rows.
+const ROWS: usize = 65_536;
+
+fn main(rt: HostRuntime) -> io::Result<()> {
+    let mut space = [0u8; ROWS];
+    let got = files::fill(&mut rt.stdin(), &mut space).got;
+    rows::print_rows(&rt, &space[..got])
 }

@@ -1,21 +1,19 @@
 // Text and numbers on standard output.
 use busbar_current::Value;
-use libc::STDOUT_FILENO;
+use std::io;
 
-pub(crate) fn text(t: &[u8]) {
-    io::write_all(STDOUT_FILENO, t);
+pub(crate) fn text<R: Print>(rt: &R, t: &[u8]) -> io::Result<()> {
+    rt.write_all(t)
 }
 
 // A number of a line before its last.
-pub(crate) fn field(n: u64) {
-    io::print_decimal(STDOUT_FILENO, n);
-    text(b" ");
+pub(crate) fn field<R: Print>(rt: &R, n: u64) -> io::Result<()> {
+    print!(rt; "{n} ")
 }
 
 // The last number of a line.
-pub(crate) fn last(n: u64) {
-    io::print_decimal(STDOUT_FILENO, n);
-    text(b"\n");
+pub(crate) fn last<R: Print>(rt: &R, n: u64) -> io::Result<()> {
+    println!(rt; "{n}")
 }
 
 // How far a number is from 0. Of one below it, -1 - z fits whatever it is.
@@ -26,16 +24,16 @@ pub(crate) fn size(z: i64) -> u64 {
     z as u64
 }
 
-fn signed(z: i64) {
+fn signed<R: Print>(rt: &R, z: i64) -> io::Result<()> {
     if z < 0 {
-        text(b"-");
+        text(rt, b"-")?;
     }
-    last(size(z));
+    last(rt, size(z))
 }
 
-pub(crate) fn value(v: Value) {
+pub(crate) fn value<R: Print>(rt: &R, v: Value) -> io::Result<()> {
     match v {
-        Value::Missing => text(b"missing\n"),
-        Value::Is(z) => signed(z),
+        Value::Missing => text(rt, b"missing\n"),
+        Value::Is(z) => signed(rt, z),
     }
 }

@@ -5,6 +5,7 @@ use busbar_current::Value;
 use measure::{Channel, Measured, Reading};
 use measure_front::{Front, Quality};
 use phasor::{Phasor, Vector};
+use std::io;
 
 // The limit of a 1 A module's current, and of nothing else.
 const LIMIT_1A: u32 = 40;
@@ -52,7 +53,7 @@ fn quality_of(n: u32) -> Quality {
 }
 
 // 1 where the first step lets a number with this exponent pass, 0 where it is missing.
-pub(crate) fn print_front(r: Row, exponent: u8) {
+pub(crate) fn print_front<R: Print>(rt: &R, r: Row, exponent: u8) -> io::Result<()> {
     let quality = quality_of(r.numbers[2]);
     let f = Front {
         quality: quality,
@@ -60,8 +61,8 @@ pub(crate) fn print_front(r: Row, exponent: u8) {
         exponent: exponent,
     };
     if measure_front::passes(channel(r.numbers[1] as u64), f) {
-        print::text(b"1");
+        print::text(rt, b"1")
     } else {
-        print::text(b"0");
+        print::text(rt, b"0")
     }
 }

@@ -1,5 +1,7 @@
 // The rows of `stdin`, a line each: their numbers are read, and at its end a row is printed with its answer.
 
+use std::io;
+
 // The most numbers of a row, with those that are kept from rows before it.
 pub const MOST: usize = 128;
 
@@ -114,32 +116,32 @@ fn fresh(r: Row, start: usize) -> Row {
     row
 }
 
-fn step(r: Row, bytes: &[u8], byte: u8, i: usize) -> Row {
+fn step<R: Print>(rt: &R, r: Row, bytes: &[u8], byte: u8, i: usize) -> io::Result<Row> {
     if byte == b'\n' {
         let row = closed(r, byte);
-        crate::print_row(bytes, row);
-        return fresh(row, std::num::wrapping_add_usize(i, 1));
+        crate::print_row(rt, bytes, row)?;
+        return Ok(fresh(row, std::num::wrapping_add_usize(i, 1)));
     }
     if r.place == COMMENT {
-        return r;
+        return Ok(r);
     }
-    taken(r, byte, i)
+    Ok(taken(r, byte, i))
 }
 
 // What stands before the bar.
-pub(crate) fn print_text(bytes: &[u8], r: Row) {
+pub(crate) fn print_text<R: Print>(rt: &R, bytes: &[u8], r: Row) -> io::Result<()> {
     let start = r.start;
     let bar = r.bar;
     if bar > bytes.len() {
-        return;
+        return Ok(());
     }
     if start > bar {
-        return;
+        return Ok(());
     }
-    crate::print::text(&bytes[start..bar]);
+    crate::print::text(rt, &bytes[start..bar])
 }
 
-pub(crate) fn print_rows(bytes: &[u8]) {
+pub(crate) fn print_rows<R: Print>(rt: &R, bytes: &[u8]) -> io::Result<()> {
     let mut row = Row {
         kind: b'-',
         numbers: [0u32; MOST],
@@ -155,7 +157,8 @@ pub(crate) fn print_rows(bytes: &[u8]) {
     };
     let mut i: usize = 0;
     while i < bytes.len() {
-        row = step(row, bytes, bytes[i], i);
+        row = step(rt, row, bytes, bytes[i], i)?;
         i += 1;
     }
+    Ok(())
 }

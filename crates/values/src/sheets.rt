@@ -1,7 +1,7 @@
 // The check of the setting sheet whose numbers are kept, and the codes of BCD lines. After the sheet's numbers stand those that are
 // tried at each slot.
 ghost use Rattle.std.specs.Prelude.{◌<◌};
-ghost use Rattle.io.specs.Counts.{IsPrefixLen};
+ghost use Rattle.files.specs.Counts.{IsPrefixLen};
 ghost use Rattle.slots.specs.Slots.{slots};
 
 use crate::chance::Turn;
@@ -9,6 +9,7 @@ use crate::rows::{MOST, Row};
 use crate::{chance, print, rows};
 use sheet::Answer;
 use slots::{N_L, N_R, SLOTS, TAP_SOURCE};
+use std::io;
 
 // So many numbers, or as many as there are.
 fn upto(list: &[u32], n: usize) -> usize
@@ -27,16 +28,16 @@ fn judged(list: &[u32], n: usize) -> Answer {
 }
 
 // The answer to as many of the kept numbers as the row says.
-pub(crate) fn print_answer(bytes: &[u8], r: Row) {
+pub(crate) fn print_answer<R: Print>(rt: &R, bytes: &[u8], r: Row) -> io::Result<()> {
     let at = r.kept;
     if at >= MOST {
-        return;
+        return Ok(());
     }
     let list = r.numbers;
     let answer = judged(&list, r.numbers[at] as usize);
-    rows::print_text(bytes, r);
-    print::field(sheet::number(answer) as u64);
-    print::last(sheet::slot(answer) as u64);
+    rows::print_text(rt, bytes, r)?;
+    print::field(rt, sheet::number(answer) as u64)?;
+    print::last(rt, sheet::slot(answer) as u64)
 }
 
 // What the answer's number counts for in the checksum.
@@ -60,34 +61,34 @@ const TRIED: usize = 51;
 pub const TURNS: usize = SLOTS * TRIED;
 
 // One number tried at one slot; after the last one there the slot is printed with the checksum.
-pub(crate) fn tried(bytes: &[u8], r: Row, t: Turn, i: usize) -> Turn {
+pub(crate) fn tried<R: Print>(rt: &R, bytes: &[u8], r: Row, t: Turn, i: usize) -> io::Result<Turn> {
     let numbers = r.numbers;
     let slot = i / TRIED % SLOTS;
     let sum = chance::add(t.sum, weight(numbers, slot, numbers[SLOTS + i % TRIED]));
     if i % TRIED == TRIED - 1 {
-        rows::print_text(bytes, r);
-        print::field(slot as u64);
-        print::last(sum);
+        rows::print_text(rt, bytes, r)?;
+        print::field(rt, slot as u64)?;
+        print::last(rt, sum)?;
     }
-    Turn {
+    Ok(Turn {
         seed: t.seed,
         sum: sum,
-    }
+    })
 }
 
 // The last tap.
 const LAST: u32 = 40;
 
 // A byte of BCD lines, with taps from 1 on: tap, wrong code, range error.
-pub(crate) fn print_code(bytes: &[u8], r: Row, lines: u8) {
+pub(crate) fn print_code<R: Print>(rt: &R, bytes: &[u8], r: Row, lines: u8) -> io::Result<()> {
     let mut s = [0u32; SLOTS];
     s[TAP_SOURCE] = 1;
     s[N_L] = 1;
     s[N_R] = LAST;
     let p = tap_position::read_position(&s, lines, 0, 20);
-    rows::print_text(bytes, r);
-    print::field(lines as u64);
-    print::field(p.tap as u64);
-    print::field(p.wrong_code as u64);
-    print::last(p.range_error as u64);
+    rows::print_text(rt, bytes, r)?;
+    print::field(rt, lines as u64)?;
+    print::field(rt, p.tap as u64)?;
+    print::field(rt, p.wrong_code as u64)?;
+    print::last(rt, p.range_error as u64)
 }
