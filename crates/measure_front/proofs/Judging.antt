@@ -4,7 +4,7 @@ use mathlib.Core.Path.{◌≡◌, refl, sym, ap, ◌∙◌, subst}
 use mathlib.Core.Logic.{◌↔◌}
 use mathlib.Core.Bool.{Bool, true, false, true≢false}
 use borrow.Author.Rules.{rules}
-use lib.Ieee.{Float, binary32, of_bits, to_bits}
+use lib.Ieee.{Float, of_bits, to_bits}
 use Rattle.measure.specs.Fields.{minus_of, exponent_of}
 use Rattle.measure.specs.Readings.{limit_of, number_of, measured_of}
 use Rattle.measure.specs.declared.Channel.{Channel}
