@@ -1,0 +1,7 @@
+use Rattle.showing.specs.Showing.{outputs_of}
+use borrow.Author.Rules.{rules}
+use Rattle.showing.proofs.show.Goals as goal
+
+pub returns : goal.returns
+unfolding outputs_of
+returns c = cc

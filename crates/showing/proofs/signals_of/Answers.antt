@@ -1,0 +1,6 @@
+use Rattle.showing.proofs.Made.{signals_made}
+use borrow.Author.Rules.{rules}
+use Rattle.showing.proofs.signals_of.Goals as goal
+
+pub returns : goal.returns
+returns c = search signals_made
