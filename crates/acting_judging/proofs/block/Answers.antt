@@ -1,0 +1,7 @@
+use Rattle.acting_judging.specs.Judging.{blocked_of}
+use borrow.Author.Rules.{rules}
+use Rattle.acting_judging.proofs.block.Goals as goal
+
+pub returns : goal.returns
+unfolding blocked_of
+returns c = cc

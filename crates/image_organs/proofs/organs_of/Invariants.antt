@@ -1,0 +1,16 @@
+-- `image_organs::organs_of` meets its contract. The loop's invariant: the places passed hold what the definition says of them.
+-- Assumes nothing.
+use Prim.Native.Nat.{◌≤◌, ◌-◌}
+use mathlib.Core.Path.{◌≡◌}
+use lib.ListN.{length}
+use Rattle.common.proofs.Done.{done, done_on, done_all}
+use Rattle.image_organs.specs.Places.{organ_of, organs_of}
+use borrow.Author.Rules.{rules}
+use Rattle.image_organs.proofs.organs_of.Given as goal
+
+abbrev pub invariant-loop-i : goal.invariant-loop-i
+invariant-loop-i l =
+    (l.i ≤ 7) × (length l.initial.organs ≡ 7) × (l.organs ≡ done organ_of l.i l.initial.organs l.marks l.counts)
+
+abbrev pub decreases-loop-i : goal.decreases-loop-i
+decreases-loop-i l = 7 - l.i
