@@ -1,0 +1,9 @@
+use Rattle.command_manual.proofs.Made.{made}
+use borrow.Author.Rules.{rules}
+use Rattle.command_manual.proofs.remember.Goals as goal
+
+pub returns-then-rested-dropped : goal.returns-then-rested-dropped
+returns-then-rested-dropped c = search made
+
+pub returns : goal.returns
+returns c = search made

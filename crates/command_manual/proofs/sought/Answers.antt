@@ -1,0 +1,6 @@
+use Rattle.command_manual.proofs.Made.{made}
+use borrow.Author.Rules.{rules}
+use Rattle.command_manual.proofs.sought.Goals as goal
+
+pub returns : goal.returns
+returns c = search made
