@@ -1,10 +1,9 @@
 -- Nothing overflows, for any reading and any impedance that a sheet can hold: each number of the code with a bound on its magnitude,
 -- step by step.
 -- Assumes nothing.
-use mathlib.Core.Path.{◌≡◌, refl, sym, ap, ◌∙◌}
+use mathlib.Core.Path.{◌≡◌, ap, ◌∙◌}
 use Prim.Native.Nat.{ℕ, ◌+◌, ◌*◌, ◌<◌, ◌≤◌, ◌^◌}
-use native.Mathlib.Nat.{le_trans, mul-le-mul}
-use native.Mathlib.Omega.{arith}
+use native.Mathlib.Nat.{le_trans}
 use borrow.Author.Rules.{rules}
 use lib.Dec.{T, lit≤, lit<}
 use lib.IntN.{ℤ, pos, nat_abs, ◌+ℤ◌, ◌-ℤ◌, ◌*ℤ◌}

@@ -1,6 +1,6 @@
 -- Facts of U along the line, for every sheet, voltage and current.
 -- Assumes nothing.
-use mathlib.Core.Path.{◌≡◌, refl, sym, ap, ◌∙◌}
+use mathlib.Core.Path.{◌≡◌, refl, sym, ap}
 use mathlib.Core.Bool.{true}
 use mathlib.Core.List.{List}
 use Prim.Native.Nat.{ℕ, suc, ◌≤◌}
@@ -19,7 +19,6 @@ use Rattle.sheet.specs.Sheet.{passes_of}
 use Rattle.sheet.proofs.Laws.{resistance_most, reactance_most}
 use Rattle.root.specs.Roots.{root_of, Root}
 use Rattle.root.proofs.Laws.{root_is, root_monotone}
-use Rattle.busbar_current.specs.declared.Value.{Value}
 use Rattle.busbar_current.specs.declared.Value.TheVariants as value
 use Rattle.busbar_current.specs.Current.{picked_of}
 use Rattle.line_current.specs.Pair.{current_of}

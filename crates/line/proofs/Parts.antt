@@ -1,7 +1,7 @@
 -- The definitions that go by whether a pair is missing, as `search` follows them, and no part of what remains above its bound.
 -- Assumes nothing.
-use mathlib.Core.Path.{◌≡◌, refl, sym, ap, ◌∙◌}
-use Prim.Native.Nat.{ℕ, ◌+◌, ◌*◌, ◌<◌, ◌≤◌, ◌^◌}
+use mathlib.Core.Path.{◌≡◌}
+use Prim.Native.Nat.{ℕ, ◌+◌, ◌≤◌, ◌^◌}
 use native.Mathlib.Nat.{le_trans, lt_of_le_of_lt}
 use native.Mathlib.Omega.{arith}
 use borrow.Author.Rules.{rules}
@@ -14,7 +14,7 @@ use Rattle.common.proofs.Signed.{nat_abs-sub, Stands, exactly, fits, read, back,
 use Rattle.phasor.specs.declared.Vector.{Vector}
 use Rattle.phasor.specs.declared.Vector.TheVariants.{Missing, Is}
 use Rattle.phasor.specs.Pairs.{Within}
-use Rattle.root.specs.Roots.{root_of, Root}
+use Rattle.root.specs.Roots.{root_of}
 use Rattle.root.proofs.Laws.{root_most}
 use Rattle.busbar_current.specs.declared.Value.{Value}
 use Rattle.busbar_current.specs.declared.Value.TheVariants as value

@@ -1,7 +1,7 @@
 -- Worked values of U along the line's impedance, by hand, as one list; `proofs/Worked.antt` shows U by its sentence.
-use Rattle.std.specs.Prelude.{ℕ, ◌+◌, ◌*◌, Bool, ◌&&◌, List, [], ◌∷◌, map, ◌≡◌, refl, leb, ltb, ℤ, pos, negsuc}
+use Rattle.std.specs.Prelude.{ℕ, List, [], ◌∷◌, map, ◌≡◌, refl, ℤ, pos, negsuc}
 use Rattle.phasor.specs.declared.Vector.{Vector}
-use Rattle.phasor.specs.declared.Vector.TheVariants.{Missing, Is}
+use Rattle.phasor.specs.declared.Vector.TheVariants.{Is}
 use Rattle.busbar_current.specs.declared.Value.{Value}
 use Rattle.busbar_current.specs.declared.Value.TheVariants as value
 use Rattle.line.specs.Along.{scaled_of, drop_re, drop_im, remains_of, magnitude_of}
