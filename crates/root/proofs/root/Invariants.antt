@@ -1,3 +1,4 @@
+-- The root lies between r and r + 2 ^ i.
 use Rattle.std.proofs.Common.{◌≤◌, ◌^◌}
 use Rattle.root.proofs.Laws.{Between}
 use Rattle.root.proofs.root.Given as goal

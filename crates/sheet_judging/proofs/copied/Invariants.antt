@@ -1,3 +1,4 @@
+-- The places copied so far are the list's.
 use Rattle.std.proofs.Common.{◌-◌, ◌≤◌, ◌≡◌}
 use lib.ListN.{replicate}
 use Rattle.slots.specs.Slots.{slots}

@@ -1,3 +1,4 @@
+-- The lowest slot out of range is the lowest from the loop's slot on, by columns that are the scaled rows of the table.
 use Rattle.std.proofs.Common.{◌-◌, ◌≤◌}
 use Rattle.slots.specs.Slots.{slots}
 use Rattle.sheet_ranges.proofs.Tables.{Columns}
