@@ -1,0 +1,6 @@
+use Rattle.rules.proofs.Made.{live_made}
+use borrow.Author.Rules.{rules}
+use Rattle.regulator.proofs.live.Goals as goal
+
+pub returns : goal.returns
+returns c = search live_made
