@@ -27,7 +27,6 @@ use denote.Ref.{MutBor, MutRef, mut_vals, mut_Tells}
 use denote.Signature.{plain}
 use denote.Steps.{only, owned, peeks, heard, nothing}
 use denote.Struct.Laws as LL
-use denote.Triple.Statement.{Contract, Triple}
 use denote.Triple.Clauses.{Lasts, ensured, lasts, at_exit}
 use denote.Triple.Entry.{on_entry}
 use denote.Triple.Spec.{Meets, triple_of}
@@ -58,11 +57,13 @@ use Rattle.lent.specs.contracts.tick_lent.Key.{name as #lent·tick-lent}
 use Rattle.lent.specs.contracts.tick_lent as f
 use Rattle.lent.proofs.tick_lent.Statement as stated
 use Rattle.lent.proofs.tick_lent.Code as code
+use Rattle.lent.proofs.tick_lent.Goals as goal
 
 abbrev stayed : Stays (f.ended).signature.params (f.ended).kept
 stayed = (stay_ref (0 ∷ []) tt (plain (λ _. R.the_row)), (stay_none (λ _. T.the_row) yes, tt))
 
 -- the machine values
+
 abbrev rval : Regulator → Val
 rval = LL.val R.the_type R'.the_laws
 
@@ -76,6 +77,7 @@ abbrev xval : Ticked → Val
 xval = LL.val X.the_type X'.the_laws
 
 -- of what is known of a `Ticked`, what is known of its two fields
+
 is-reply : (x : Ticked) (v : Val) → Is X.the_row x (v ∷ []) → Is O.the_row x.reply (oval x.reply ∷ [])
 is-reply x v is = (LL.owed X.the_type X'.the_laws x (v ∷ []) is).0
 
@@ -83,6 +85,7 @@ is-next : (x : Ticked) (v : Val) → Is X.the_row x (v ∷ []) → Is R.the_row 
 is-next x v is = (LL.owed X.the_type X'.the_laws x (v ∷ []) is).1.0
 
 -- the contract that the proof cites
+
 abbrev Called : {M : Type 1} {𝓤 : Ura M} (𝓛 : Logic 𝓤) (at_mem : Memory → SProp 𝓤) (run : Routine → Fun 𝓤) → Contract 𝓤
 Called 𝓛 at_mem run = triple_of 𝓛 tick.signature (tick.spec 𝓛 at_mem run)
 
@@ -168,11 +171,3 @@ tick-lent-meets : {M : Type 1} {𝓤 : Ura M} (𝓛 : Logic 𝓤) → (at_mem : 
 tick-lent-meets {𝓤 = 𝓤} 𝓛 at_mem run 𝓣 known =
     walk_Meets 𝓛 f.ended stayed (Goes-ref 𝓛 1 0 tt (plain (λ _. R.the_row)), (Goes-none 𝓛 1 (λ _. T.the_row) yes (λ κs x f. refl), tt)) (f.clauses 𝓛 at_mem run)
     (WpFn 𝓤 𝓛.H 𝓣.C 𝓣.Λ code.function) (WpFn-mono 𝓤 𝓛.H 𝓛.laws 𝓣 code.function) (tick-lent-walks 𝓛 at_mem run 𝓣.C 𝓣.Λ (fm_of 𝓤 𝓛.H 𝓛.laws 𝓣) known)
-
-pub tick-lent-spec : {M : Type 1} → stated.statement M
-unfolding code.routine tables_of
-tick-lent-spec 𝓤 𝓛 𝓜 𝓡 =
-    entered 𝓤 𝓛.H (triple_of 𝓛 f.signature (f.spec 𝓛 𝓜.mem 𝓡.run))
-    (tables 𝓤 𝓛.H 𝓜 𝓡 code.env).C (tables 𝓤 𝓛.H 𝓜 𝓡 code.env).Λ #lent·tick-lent code.function (code.unfolded 𝓤 𝓛.H 𝓜 𝓡)
-    (tick-lent-meets 𝓛 𝓜.mem 𝓡.run (tables_of 𝓤 𝓛.H 𝓜 (tables 𝓤 𝓛.H 𝓜 𝓡 code.env))
-    (cited 𝓤 𝓛.H (Called 𝓛 𝓜.mem 𝓡.run) 𝓜 𝓡 code.env #regulator·tick tick-def.routine code.calls-regulator::tick (tick-thm.met 𝓤 𝓛 𝓜 𝓡)))

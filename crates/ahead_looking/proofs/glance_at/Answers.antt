@@ -1,0 +1,8 @@
+-- `ahead_looking::glance_at` meets its contract.
+-- Assumes nothing.
+use borrow.Author.Rules.{rules}
+use Rattle.ahead_looking.proofs.Looks.{glance_made}
+use Rattle.ahead_looking.proofs.glance_at.Goals as goal
+
+pub returns : goal.returns
+returns c = search glance_made
