@@ -1,5 +1,4 @@
 use Rattle.command_automatic.proofs.Made.{made}
-use borrow.Author.Rules.{rules}
 use Rattle.command_automatic.proofs.automatic_mode.Goals as goal
 
 pub returns-in-Neither : goal.returns-in-Neither

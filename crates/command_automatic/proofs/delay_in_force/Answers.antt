@@ -1,5 +1,4 @@
 use Rattle.command_automatic.proofs.Made.{made}
-use borrow.Author.Rules.{rules}
 use Rattle.command_automatic.proofs.delay_in_force.Goals as goal
 
 pub returns-then-to_lower-far : goal.returns-then-to_lower-far

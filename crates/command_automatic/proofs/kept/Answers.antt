@@ -1,5 +1,4 @@
 use Rattle.command_automatic.proofs.Made.{made}
-use borrow.Author.Rules.{rules}
 use Rattle.command_automatic.proofs.kept.Goals as goal
 
 pub returns-then-in_band-other : goal.returns-then-in_band-other

@@ -1,6 +1,5 @@
 use Rattle.command_automatic.proofs.Made.{made}
 use Rattle.command_automatic.specs.Automatic.{repeat_of}
-use borrow.Author.Rules.{rules}
 use Rattle.command_automatic.proofs.next_repeat.Goals as goal
 
 pub returns-then-automatic : goal.returns-then-automatic

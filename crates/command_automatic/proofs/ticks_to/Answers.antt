@@ -1,6 +1,5 @@
 use Rattle.command_automatic.proofs.Made.{made}
 use Rattle.command_automatic.specs.Automatic.{ticks_of}
-use borrow.Author.Rules.{rules}
 use Rattle.command_automatic.proofs.ticks_to.Goals as goal
 
 pub returns-then-is_to : goal.returns-then-is_to

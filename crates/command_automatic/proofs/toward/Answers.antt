@@ -1,5 +1,4 @@
 use Rattle.command_automatic.proofs.Made.{made}
-use borrow.Author.Rules.{rules}
 use Rattle.command_automatic.proofs.toward.Goals as goal
 
 pub returns-then-b-opposed : goal.returns-then-b-opposed

@@ -1,6 +1,5 @@
 use Rattle.command_automatic.proofs.Made.{made}
 use Rattle.command_automatic.specs.Automatic.{wait_on_of}
-use borrow.Author.Rules.{rules}
 use Rattle.command_automatic.proofs.wait_on.Goals as goal
 
 pub returns-then-next-delay : goal.returns-then-next-delay

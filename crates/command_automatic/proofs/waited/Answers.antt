@@ -1,5 +1,4 @@
 use Rattle.command_automatic.proofs.Made.{made}
-use borrow.Author.Rules.{rules}
 use Rattle.command_automatic.proofs.waited.Goals as goal
 
 pub returns-in-Idle : goal.returns-in-Idle

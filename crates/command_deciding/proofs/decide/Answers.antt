@@ -1,6 +1,5 @@
 use Rattle.common.proofs.Cases.{cases}
 use Rattle.command_deciding.specs.Deciding.{decided_of}
-use borrow.Author.Rules.{rules}
 use Rattle.command_deciding.proofs.decide.Goals as goal
 
 pub returns-then-not-x : goal.returns-then-not-x

@@ -1,5 +1,4 @@
 use Rattle.command_manual.proofs.Made.{made}
-use borrow.Author.Rules.{rules}
 use Rattle.command_manual.proofs.manual_mode.Goals as goal
 
 pub returns-then-raises-b : goal.returns-then-raises-b

@@ -1,5 +1,4 @@
 use Rattle.command_manual.proofs.Made.{made}
-use borrow.Author.Rules.{rules}
 use Rattle.command_manual.proofs.sought.Goals as goal
 
 pub returns : goal.returns

@@ -1,5 +1,4 @@
 use Rattle.command_pairs.proofs.Made.{made}
-use borrow.Author.Rules.{rules}
 use Rattle.command_pairs.proofs.hear.Goals as goal
 
 pub returns-then-changed : goal.returns-then-changed

@@ -1,5 +1,4 @@
 use Rattle.drive_hold.specs.Hold.{ends_of}
-use borrow.Author.Rules.{rules}
 use Rattle.drive_hold.proofs.ends.Goals as goal
 
 pub returns : goal.returns

@@ -1,6 +1,5 @@
 use Rattle.drive_hold.proofs.States.{holds}
 use Rattle.drive_hold.specs.Hold.{hold_of}
-use borrow.Author.Rules.{rules}
 use Rattle.drive_hold.proofs.hold.Goals as goal
 
 pub returns-then-x : goal.returns-then-x

@@ -1,6 +1,5 @@
 use Rattle.common.proofs.Cases.{cases}
 use Rattle.drive_hold.specs.Hold.{automatic_of}
-use borrow.Author.Rules.{rules}
 use Rattle.drive_hold.proofs.hold_automatic.Goals as goal
 
 pub returns-then-ends : goal.returns-then-ends

@@ -1,5 +1,4 @@
 use Rattle.common.proofs.Cases.{cases}
-use borrow.Author.Rules.{rules}
 use Rattle.drive_hold.proofs.hold_command.Goals as goal
 
 pub returns-then-automatic : goal.returns-then-automatic

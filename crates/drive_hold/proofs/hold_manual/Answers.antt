@@ -1,6 +1,5 @@
 use Rattle.common.proofs.Cases.{cases}
 use Rattle.drive_hold.specs.Hold.{manual_of}
-use borrow.Author.Rules.{rules}
 use Rattle.drive_hold.proofs.hold_manual.Goals as goal
 
 pub returns-then-older-t4 : goal.returns-then-older-t4

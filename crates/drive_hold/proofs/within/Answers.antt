@@ -1,5 +1,4 @@
 use Rattle.drive_hold.proofs.States.{holds}
-use borrow.Author.Rules.{rules}
 use Rattle.drive_hold.proofs.within.Goals as goal
 
 pub returns-in-Resting : goal.returns-in-Resting

@@ -1,5 +1,4 @@
 use Rattle.ways.proofs.Cases.{ways}
-use borrow.Author.Rules.{rules}
 use Rattle.ways.proofs.newer.Goals as goal
 
 pub returns-in-Neither : goal.returns-in-Neither

@@ -1,4 +1,3 @@
-use borrow.Author.Rules.{rules}
 use Rattle.ways.proofs.opposite.Goals as goal
 
 pub returns : goal.returns
