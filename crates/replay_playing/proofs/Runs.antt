@@ -6,8 +6,8 @@ use mathlib.Core.Bool.{true, false, true≢false, false≢true}
 use mathlib.Core.List.{List, [], ◌∷◌, ◌++◌}
 use native.Mathlib.Omega.{arith}
 use lib.ListN.{length, take, drop, length-append, length-drop}
-use Rattle.io.specs.Counts.{IsPrefixLen}
-use Rattle.io.proofs.Counting.{prefix_len_of_le}
+use Rattle.files.specs.Counts.{IsPrefixLen}
+use Rattle.files.proofs.Counting.{prefix_len_of_le}
 use borrow.Author.Tests.{le-leb}
 use lib.Dec.{leb}
 use Rattle.common.proofs.Cases.{yes, chosen}
@@ -24,7 +24,7 @@ use Rattle.rules.specs.declared.Ticked.{Ticked}
 use Rattle.rules.specs.Ticks as ticks
 use Rattle.rules.specs.Ticks.{ran_of, out_of, refused_of, tick_of}
 use Rattle.replay_playing.specs.declared.Stepped.{Stepped}
-use Rattle.replay_playing.specs.Played.{Played, line_room, line_at, played_on, played_to, play_from, played_of, step_of, lines_of}
+use Rattle.replay_playing.specs.Played.{Played, line_room, line_at, played_on, play_from, played_of, step_of, lines_of}
 
 -- ---- a line
 

@@ -1,6 +1,6 @@
 -- The chunks of a recording, one after the other: what was played so far is the whole of what was read so far.
 -- Assumes nothing.
-use Prim.Native.Nat.{ℕ, zero, suc, ◌+◌, ◌*◌, ◌≤◌}
+use Prim.Native.Nat.{ℕ, zero, suc, ◌+◌, ◌≤◌}
 use mathlib.Core.Path.{◌≡◌, refl, sym, ap, ◌∙◌}
 use mathlib.Core.Bool.{Bool, true, false, not, ◌&&◌}
 use mathlib.Core.List.{List, [], ◌++◌, append-nil}
@@ -16,7 +16,7 @@ use Rattle.recording_ticks.specs.declared.Decoded.{Decoded}
 use Rattle.recording_ticks.specs.declared.Decoded.TheVariants.{Tick, BadQuality, CutShort}
 use Rattle.recording_ticks.specs.Recorded.{tick_bytes, decoded_of}
 use Rattle.recording_ticks.proofs.Parts.{whole_tick}
-use Rattle.replay_playing.specs.Played.{Played, played_on, on_tick, play_from, played_of, played_to, played_after}
+use Rattle.replay_playing.specs.Played.{Played, played_on, on_tick, play_from, played_of, played_after}
 use Rattle.replay_streamed.specs.Streamed.{chunk_bytes, Chunk, Streamed, Replayed}
 use Rattle.replay_streamed.specs.declared.Advanced.{Advanced}
 use Rattle.replay_streamed.specs.declared.Ended.{Ended}

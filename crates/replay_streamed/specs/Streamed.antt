@@ -1,6 +1,6 @@
 -- What a run over a recording gives that is read chunk by chunk: what it gives in one piece, so that no border of a chunk shows.
 -- No contract can name what a read brings, but it stands in the buffer. Definitions only.
-use Rattle.std.specs.Prelude.{ℕ, ◌+◌, ◌*◌, ◌≤◌, ◌≡◌, not, ◌&&◌, true, false, List, ◌++◌, eqb, length, take}
+use Rattle.std.specs.Prelude.{ℕ, ◌+◌, ◌*◌, ◌≤◌, ◌≡◌, not, ◌&&◌, true, List, ◌++◌, eqb, length, take}
 use Rattle.record.specs.declared.Regulator.{Regulator}
 use Rattle.recording_ticks.specs.Recorded.{tick_bytes}
 use Rattle.replay_playing.specs.Played.{played_of, played_to}
