@@ -15,7 +15,6 @@ use Rattle.common.proofs.Cases.{yes}
 use Rattle.input.specs.declared.Input.{Input}
 use Rattle.recording_numbers.specs.Numbers.{number_bytes, number_at, float_at}
 use Rattle.recording_ticks.specs.Recorded.{readings, reading_bytes, contacts_at, bcd_at, sensor_at, tick_bytes, reading_at, nth_reading, phasor_at, phasors_at, input_at, bad_from, bad_place, decoded_of}
-use Rattle.recording_ticks.specs.declared.Decoded.{Decoded}
 use Rattle.recording_ticks.specs.declared.Decoded.TheVariants.{Tick, BadQuality, CutShort}
 use Rattle.recording_ticks.proofs.Made.{cut_short}
 

@@ -1,8 +1,7 @@
+-- `coding_fault::fault_of` meets its contract: each branch is a choice of the definition. Assumes nothing.
 use Rattle.common.proofs.Cases.{cases}
 use Rattle.coding_fault.specs.Numbers.{fault_of}
 use Rattle.coding_fault.proofs.fault_of.Goals as goal
-
--- `coding_fault::fault_of` meets its contract: each branch is a choice of the definition. Assumes nothing.
 
 pub returns-then-n-eq0 : goal.returns-then-n-eq0
 unfolding fault_of

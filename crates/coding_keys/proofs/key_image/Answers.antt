@@ -1,6 +1,5 @@
 use mathlib.Core.Path.{refl}
 use Rattle.coding_keys.specs.Numbers.{key_image}
-use borrow.Author.Rules.{rules}
 use Rattle.coding_keys.proofs.key_image.Goals as goal
 
 pub returns : goal.returns

@@ -1,8 +1,7 @@
+-- `coding_ways::way_of` meets its contract: each branch is a choice of the definition. Assumes nothing.
 use Rattle.common.proofs.Cases.{cases}
 use Rattle.coding_ways.specs.Numbers.{way_of}
 use Rattle.coding_ways.proofs.way_of.Goals as goal
-
--- `coding_ways::way_of` meets its contract: each branch is a choice of the definition. Assumes nothing.
 
 pub returns-then-n-eq0 : goal.returns-then-n-eq0
 unfolding way_of

@@ -1,5 +1,4 @@
 use Rattle.image_input.specs.Bringing.{input_of}
-use borrow.Author.Rules.{rules}
 use Rattle.image_input.proofs.input_of.Goals as goal
 
 -- `image_input::input_of` meets its contract, by what each call ensures. Assumes nothing.

@@ -1,5 +1,4 @@
 use Rattle.image_input.specs.Bringing.{phasor_of}
-use borrow.Author.Rules.{rules}
 use Rattle.image_input.proofs.phasor_of.Goals as goal
 
 -- `image_input::phasor_of` meets its contract, by what each call ensures. Assumes nothing.

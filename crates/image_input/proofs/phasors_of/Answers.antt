@@ -1,5 +1,4 @@
 use Rattle.image_input.specs.Bringing.{phasors_of}
-use borrow.Author.Rules.{rules}
 use Rattle.image_input.proofs.phasors_of.Goals as goal
 
 -- `image_input::phasors_of` meets its contract, by what each call ensures. Assumes nothing.

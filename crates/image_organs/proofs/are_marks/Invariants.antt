@@ -4,8 +4,7 @@ use Prim.Native.Nat.{◌≤◌, ◌-◌}
 use mathlib.Core.Path.{◌≡◌}
 use Rattle.common.proofs.Places.{rest}
 use Rattle.image_organs.specs.Places.{are_marks}
-use Rattle.image_organs.proofs.Organs.{bit_at, bits_start, bits_on, bits_no, bits_none}
-use borrow.Author.Rules.{rules}
+use Rattle.image_organs.proofs.Organs.{bit_at}
 use Rattle.image_organs.proofs.are_marks.Given as goal
 
 abbrev pub invariant-loop-i : goal.invariant-loop-i

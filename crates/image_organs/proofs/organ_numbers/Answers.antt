@@ -1,8 +1,5 @@
-use Prim.Native.Nat.{◌≤◌, ◌-◌}
-use mathlib.Core.Path.{◌≡◌}
-use lib.ListN.{length}
 use Rattle.common.proofs.Done.{done, done_all}
-use Rattle.image_organs.proofs.Organs.{mark_at, count_at, mark_made, count_made, numbers_made}
+use Rattle.image_organs.proofs.Organs.{mark_made, count_made, numbers_made}
 use borrow.Author.Rules.{rules}
 use Rattle.image_organs.proofs.organ_numbers.Goals as goal
 

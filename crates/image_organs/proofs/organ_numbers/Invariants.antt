@@ -3,9 +3,8 @@
 use Prim.Native.Nat.{◌≤◌, ◌-◌}
 use mathlib.Core.Path.{◌≡◌}
 use lib.ListN.{length}
-use Rattle.common.proofs.Done.{done, done_all}
-use Rattle.image_organs.proofs.Organs.{mark_at, count_at, mark_made, count_made, numbers_made}
-use borrow.Author.Rules.{rules}
+use Rattle.common.proofs.Done.{done}
+use Rattle.image_organs.proofs.Organs.{mark_at, count_at}
 use Rattle.image_organs.proofs.organ_numbers.Given as goal
 
 abbrev pub invariant-loop-i : goal.invariant-loop-i

@@ -3,9 +3,8 @@
 use Prim.Native.Nat.{◌≤◌, ◌-◌}
 use mathlib.Core.Path.{◌≡◌}
 use lib.ListN.{length}
-use Rattle.common.proofs.Done.{done, done_on, done_all}
-use Rattle.image_organs.specs.Places.{organ_of, organs_of}
-use borrow.Author.Rules.{rules}
+use Rattle.common.proofs.Done.{done}
+use Rattle.image_organs.specs.Places.{organ_of}
 use Rattle.image_organs.proofs.organs_of.Given as goal
 
 abbrev pub invariant-loop-i : goal.invariant-loop-i

@@ -1,5 +1,4 @@
 use Rattle.input.specs.Brought.{readings_of}
-use borrow.Author.Rules.{rules}
 use Rattle.input_readings.proofs.measure_all.Goals as goal
 
 pub returns : goal.returns
