@@ -11,10 +11,13 @@ use Rattle.record_limits.specs.Limits.{within_of}
 use Rattle.sheet.specs.declared.Answer.{Answer}
 use Rattle.sheet.specs.declared.Answer.TheVariants.{Taken, WrongLength, OutOfRange, TapOrder, CountedTap}
 use Rattle.sheet.specs.Settings.{Settings}
-use Rattle.sheet.specs.Sheet.{number_of}
+use Rattle.sheet.specs.Sheet.{number_of, slot_of}
+use Rattle.record_starting.specs.Starting.{Start, replied_of}
 use Rattle.image.specs.declared.Image.{Image}
 use Rattle.image.specs.Images.{image_of}
 use Rattle.hosting.specs.Hosting.{is_accepted}
+use Rattle.boundary.specs.declared.Started as host
+use Rattle.boundary.specs.Starting.{started_image}
 use Rattle.hosting.proofs.Lists.{accepted_of}
 
 -- number 0 is that of a list that is taken
@@ -31,3 +34,9 @@ module _ (s : Started) {n : ℕ} (e : n ≡ number_of s.answer) where
 
   pub started_lasts : {m : Image} → (s.answer ≡ Taken → within_of s.state ≡ true) → m ≡ image_of s.state → n ≡ 0 → is_accepted m ≡ true
   started_lasts h q z = ap is_accepted q ∙ accepted_of s.state ∙ h (taken_of s.answer (sym e ∙ z))
+
+  -- the number, the slot and the image, of what a list is answered with
+  pub started_made : {k : ℕ} {m : Image} {t : Start} → k ≡ slot_of s.answer → m ≡ image_of s.state → replied_of s ≡ t
+      → ◌≡◌ {A = host.Started} (record { number = n; slot = k; image = m }) (started_image t)
+  unfolding started_image
+  started_made p q r = rw (e, p, q) (ap started_image r)

@@ -1,0 +1,10 @@
+-- `boundary::avr_tick_by_value` meets its contract: the tick of the numbers, with the settings put back. Assumes nothing.
+use borrow.Author.Rules.{rules}
+use Rattle.hosting.proofs.Hosted.{image_made, hosted}
+use Rattle.boundary.proofs.avr_tick_by_value.Goals as goal
+
+pub returns : goal.returns
+returns c =
+    let known = c.numbers_in-before in
+    let p = hosted c.args.image c.args.brought {t = c.with_settings.result} known.ensures (search (rules, known.type_inv)) (search (rules, known.type_inv)) (search image_made) in
+    record { each = p.0; refusal = p.1.0; left = p.1.1.0; lasting = p.1.1.1.0; lists = p.1.1.1.1 }
