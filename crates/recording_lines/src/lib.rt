@@ -2,8 +2,7 @@
 #![tactic(auto)]
 
 ghost use Rattle.std.specs.Prelude.{◌≡◌, ◌+◌, ◌*◌, ◌≤◌, ◌<◌, [], ◌∷◌, length, drop};
-ghost use Rattle.common.specs.Written.{Written};
-ghost use Rattle.recording_lines.specs.Lines.{widest, decimal_of, mark_of, line_of, written_of, end_of};
+ghost use Rattle.recording_lines.specs.Lines.{widest, decimal_of, mark_of, line_of, written_of, end_of, Written};
 
 // The most digits of a number.
 const DIGITS: usize = 10;
