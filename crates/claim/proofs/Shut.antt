@@ -14,7 +14,7 @@ use Rattle.input.specs.Brought.{bit_of}
 use Rattle.claim.specs.Claim.{Tick, Opening, All, Begins, Command, Lasting, Waiting, BeganAtZero, longest, command_field, Serves, Kept, closed}
 use Rattle.claim.specs.Scenes.{varied_by, varied_sheet, held_sheet}
 use Rattle.claim.proofs.Lists.{all_same, all_join, some_none}
-use Rattle.claim.proofs.Ticks.{shows, tick_on, open_to, closed_to, in_band, toward, waits, commands, asked, moves, ends, served_row_lem, held_to, zero_one, one_zero, begins_shown, none_shown, none_moving, is_command, open_lasts, moves_lasts, open_waits, held_waits, is_open, band_not, all_served, serves, exactly_to}
+use Rattle.claim.proofs.Ticks.{shows, tick_on, open_to, closed_to, in_band, toward, waits, commands, asked, moves, ends, served_row_lem, held_to, one_zero, begins_shown, none_shown, none_moving, is_command, open_lasts, moves_lasts, open_waits, held_waits, is_open, band_not, all_served, serves, exactly_to}
 
 -- a list begins on a record within its limits, or not, that holds these waits
 abbrev begun_on : (sheet : List ℕ) (within : Bool) (low_wait high_wait : ℕ) → Opening

@@ -9,7 +9,7 @@ use native.Mathlib.Omega.{arith}
 use borrow.Author.Tests.{le-leb}
 use lib.Dec.{eqb}
 use Rattle.common.proofs.Cases.{yes, no}
-use Rattle.slots.specs.Slots.{slot, t8, n_pos, n_start}
+use Rattle.slots.specs.Slots.{slot, t8, n_start}
 use Rattle.sheet.specs.declared.Answer.{Answer}
 use Rattle.sheet.specs.declared.Answer.TheVariants.{Taken, WrongLength, OutOfRange, TapOrder, CountedTap}
 use Rattle.sheet.specs.declared.Sheet.{Sheet}

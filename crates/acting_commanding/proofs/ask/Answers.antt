@@ -1,6 +1,5 @@
 -- `acting_commanding::ask` meets its contract: each case of the command. Assumes nothing.
 use Rattle.acting_commanding.proofs.Parts.{parts}
-use borrow.Author.Rules.{rules}
 use Rattle.acting_commanding.proofs.ask.Goals as goal
 
 pub returns-in-Neither : goal.returns-in-Neither

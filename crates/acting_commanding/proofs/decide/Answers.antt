@@ -1,6 +1,5 @@
 -- `acting_commanding::decide` meets its contract, by what each call ensures. Assumes nothing.
 use Rattle.acting_commanding.proofs.Made.{decide_made}
-use borrow.Author.Rules.{rules}
 use Rattle.acting_commanding.proofs.decide.Goals as goal
 
 pub returns : goal.returns

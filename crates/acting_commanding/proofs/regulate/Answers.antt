@@ -1,6 +1,5 @@
 -- `acting_commanding::regulate` meets its contract, by what each call ensures. Assumes nothing.
 use Rattle.acting_commanding.proofs.Made.{regulate_made}
-use borrow.Author.Rules.{rules}
 use Rattle.acting_commanding.proofs.regulate.Goals as goal
 
 pub returns : goal.returns

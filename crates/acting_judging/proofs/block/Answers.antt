@@ -1,5 +1,4 @@
 use Rattle.acting_judging.specs.Judging.{blocked_of}
-use borrow.Author.Rules.{rules}
 use Rattle.acting_judging.proofs.block.Goals as goal
 
 pub returns : goal.returns

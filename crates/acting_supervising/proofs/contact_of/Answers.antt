@@ -1,5 +1,4 @@
 use Rattle.acting_supervising.specs.Supervising.{contact_of}
-use borrow.Author.Rules.{rules}
 use Rattle.acting_supervising.proofs.contact_of.Goals as goal
 
 pub returns : goal.returns

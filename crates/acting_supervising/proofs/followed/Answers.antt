@@ -1,5 +1,4 @@
 use Rattle.acting_supervising.proofs.Made.{followed}
-use borrow.Author.Rules.{rules}
 use Rattle.acting_supervising.proofs.followed.Goals as goal
 
 pub returns-then-s-eq1 : goal.returns-then-s-eq1

@@ -1,5 +1,4 @@
 use Rattle.acting_supervising.specs.Supervising.{holding_of}
-use borrow.Author.Rules.{rules}
 use Rattle.acting_supervising.proofs.holding_of.Goals as goal
 
 pub returns : goal.returns

@@ -1,5 +1,4 @@
 use Rattle.acting_supervising.specs.Supervising.{supervised_of, cleared_of}
-use borrow.Author.Rules.{rules}
 use Rattle.acting_supervising.proofs.supervise.Goals as goal
 
 pub returns : goal.returns

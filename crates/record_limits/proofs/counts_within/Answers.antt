@@ -1,6 +1,5 @@
 -- `record_limits::counts_within` meets its contract, by what each call ensures. Assumes nothing.
 use Rattle.record_limits.proofs.Made.{counts_made}
-use borrow.Author.Rules.{rules}
 use Rattle.record_limits.proofs.counts_within.Goals as goal
 
 pub returns : goal.returns

@@ -1,6 +1,5 @@
 -- `record_limits::kind_within` meets its contract: each branch is a choice of the definition. Assumes nothing.
 use Rattle.record_limits.proofs.OfKind.{kinds}
-use borrow.Author.Rules.{rules}
 use Rattle.record_limits.proofs.kind_within.Goals as goal
 
 pub returns-then-s-eq1 : goal.returns-then-s-eq1

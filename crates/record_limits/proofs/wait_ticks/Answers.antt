@@ -1,6 +1,5 @@
 -- `record_limits::wait_ticks` meets its contract: each case of a wait. Assumes nothing.
 use Rattle.record_limits.proofs.Waits.{waits}
-use borrow.Author.Rules.{rules}
 use Rattle.record_limits.proofs.wait_ticks.Goals as goal
 
 pub returns-in-Idle : goal.returns-in-Idle

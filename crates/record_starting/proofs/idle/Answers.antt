@@ -1,4 +1,3 @@
-use borrow.Author.Rules.{rules}
 use Rattle.record_starting.proofs.idle.Goals as goal
 
 pub returns : goal.returns

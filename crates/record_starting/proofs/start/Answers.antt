@@ -1,5 +1,4 @@
 use Rattle.record_starting.proofs.Starts.{start_reply, start_exactly, start_lasting}
-use borrow.Author.Rules.{rules}
 use Rattle.record_starting.proofs.start.Goals as goal
 
 pub returns : goal.returns

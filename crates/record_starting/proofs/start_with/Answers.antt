@@ -1,5 +1,4 @@
 use Rattle.record_starting.proofs.Starts.{start_fresh, start_zeros}
-use borrow.Author.Rules.{rules}
 use Rattle.record_starting.proofs.start_with.Goals as goal
 
 pub returns-then-taken : goal.returns-then-taken

@@ -1,5 +1,4 @@
 use Rattle.record_starting.specs.Starting.{zeros_of}
-use borrow.Author.Rules.{rules}
 use Rattle.record_starting.proofs.zeros.Goals as goal
 
 pub returns : goal.returns

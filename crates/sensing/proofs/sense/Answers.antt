@@ -1,6 +1,5 @@
 -- `sensing::sense` meets its contract, by what each call ensures. Assumes nothing.
 use Rattle.sensing.proofs.Made.{sense_made}
-use borrow.Author.Rules.{rules}
 use Rattle.sensing.proofs.sense.Goals as goal
 
 pub returns : goal.returns

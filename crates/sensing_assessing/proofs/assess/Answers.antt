@@ -1,6 +1,5 @@
 -- `sensing_assessing::assess` meets its contract, by what each call ensures. Assumes nothing.
 use Rattle.sensing_assessing.specs.Assessing.{assessed_of}
-use borrow.Author.Rules.{rules}
 use Rattle.sensing_assessing.proofs.assess.Goals as goal
 
 pub returns : goal.returns

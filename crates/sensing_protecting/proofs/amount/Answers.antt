@@ -1,6 +1,5 @@
 -- `sensing_protecting::amount` meets its contract: each case of a reading. Assumes nothing.
 use Rattle.sensing_protecting.proofs.Parts.{parts}
-use borrow.Author.Rules.{rules}
 use Rattle.sensing_protecting.proofs.amount.Goals as goal
 
 pub returns-in-Good : goal.returns-in-Good

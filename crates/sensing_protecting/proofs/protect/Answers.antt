@@ -1,6 +1,5 @@
 -- `sensing_protecting::protect` meets its contract, by what each call ensures. Assumes nothing.
 use Rattle.sensing_protecting.proofs.Made.{protect_made}
-use borrow.Author.Rules.{rules}
 use Rattle.sensing_protecting.proofs.protect.Goals as goal
 
 pub returns : goal.returns

@@ -1,5 +1,4 @@
 use Rattle.showing.specs.Showing.{outputs_of}
-use borrow.Author.Rules.{rules}
 use Rattle.showing.proofs.show.Goals as goal
 
 pub returns : goal.returns

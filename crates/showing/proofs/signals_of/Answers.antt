@@ -1,5 +1,4 @@
 use Rattle.showing.proofs.Made.{signals_made}
-use borrow.Author.Rules.{rules}
 use Rattle.showing.proofs.signals_of.Goals as goal
 
 pub returns : goal.returns
