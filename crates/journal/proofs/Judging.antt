@@ -1,18 +1,18 @@
 -- The rules, number by number.
 -- Assumes nothing.
-use mathlib.Core.Path.{◌≡◌, refl, sym}
+use mathlib.Core.Path.{◌≡◌, sym}
 use mathlib.Core.Bool.{Bool, true, not, ◌&&◌, ◌||◌}
 use mathlib.Core.List.{List}
 use Prim.Native.Nat.{ℕ, ◌≤◌}
 use native.Mathlib.Omega.{arith}
-use lib.Dec.{eqb, ltb, leb}
+use lib.Dec.{eqb, leb}
 use lib.ListN.{length, get_or, set, get_or-eq_default}
 use lib.Seq.{set_out}
 use Rattle.journal.specs.declared.Progress.{Progress}
 use Rattle.journal.specs.declared.Judgement.{Judgement}
 use Rattle.showing.specs.Showing.{field_count}
 use Rattle.journal.specs.Stamps.{is_later}
-use Rattle.journal.specs.Rules.{highest_value, last_value, judged_stamp, judged_field, judged_value}
+use Rattle.journal.specs.Rules.{highest_value, last_value, judged_stamp, judged_value}
 
 pub no_field : (l : List ℕ) (f : ℕ) → length l ≡ field_count → field_count ≤ f → 0 ≡ get_or l f 0
 no_field l f e h = sym (get_or-eq_default l 0 (omega arith))

@@ -8,7 +8,7 @@ use Prim.Native.Nat.{ℕ, zero, suc, ◌+◌, ◌*◌, ◌/◌, ◌%◌, ◌^◌
 use native.Mathlib.Nat.{pow-suc, eq-or-lt_of_le}
 use native.Mathlib.Numerals.{add-one}
 use native.Mathlib.Omega.{arith}
-use borrow.Author.Tests.{ltb-true, ltb-false, lt-ltb, le-ltb, eqb-true, eqb-false, ne_eqb, leb-true}
+use borrow.Author.Tests.{ltb-true, ltb-false, lt-ltb, le-ltb, eqb-true, eqb-false, ne_eqb}
 use lib.Dec.{ltb, eqb, leb}
 use lib.ListN.{length, get_or, take, drop, length-append, length-drop}
 use lib.Seq.{take_at, drop_at, take-add, take-length, get_or-drop}
@@ -22,7 +22,7 @@ use Rattle.journal.proofs.Checks.{check_on, check_no}
 use Rattle.journal.specs.declared.Number.{Number}
 use Rattle.journal.specs.declared.TextWritten.{TextWritten}
 use Rattle.journal.specs.Texts.{groups_up_to, groups_of, journal_text, writer_answer, buffer_after}
-use Rattle.journal.specs.Reading.{no_number, group_before, decoded_up_to, first_number, Prefix, prefix_up_to, prefix_from, reader_answer, list_after, list_filled}
+use Rattle.journal.specs.Reading.{no_number, group_before, decoded_up_to, first_number, Prefix, prefix_up_to, prefix_from, reader_answer, list_after}
 use Rattle.journal.proofs.Groups.{in_short, in_long, some_group}
 use Rattle.journal.proofs.Decoded.{fine, more_none, numbered, inside, below}
 use Rattle.journal.proofs.Scans.{by_test, scan_none, scan_more, nothing, one_more, one_bad}

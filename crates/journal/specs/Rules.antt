@@ -1,5 +1,5 @@
 -- The rules of a journal, number by number (02, ticket 9). Definitions only.
-use Rattle.std.specs.Prelude.{ℕ, suc, ◌≡◌, Bool, true, false, not, ◌&&◌, ◌||◌, List, [], ◌∷◌, eqb, ltb, leb, get_or, set, replicate}
+use Rattle.std.specs.Prelude.{ℕ, suc, true, false, not, ◌&&◌, ◌||◌, List, [], ◌∷◌, eqb, ltb, leb, get_or, set, replicate}
 use Rattle.common.specs.Choice.{choose}
 use Rattle.acting_accounting.specs.Accounting.{most_operations}
 use Rattle.showing.specs.Showing.{field_count}

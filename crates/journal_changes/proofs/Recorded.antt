@@ -17,7 +17,7 @@ use Rattle.showing.specs.Showing.{field_count}
 use Rattle.journal.specs.Stamps.{stamp_after}
 use Rattle.journal_changes.specs.declared.ChangesAdded.{ChangesAdded}
 use Rattle.journal_changes.specs.Changes.{change_of, changes_from, recorder_answer, list_recorded}
-use Rattle.journal_changes.proofs.Fields.{no_change, a_change, unmoved, moved, one_length, all_length, one_most, here_changes, no_more}
+use Rattle.journal_changes.proofs.Fields.{unmoved, moved, one_length, all_length, one_most, here_changes, no_more}
 
 -- ---- one field
 

@@ -1,22 +1,20 @@
 -- What a run gives is taken by the writer.
 -- Assumes nothing.
-use Prim.Native.Nat.{ℕ, zero, suc, ◌+◌, ◌-◌, ◌%◌, ◌≤◌, ◌<◌}
+use Prim.Native.Nat.{ℕ, ◌+◌, ◌≤◌, ◌<◌}
 use native.Mathlib.Omega.{arith}
 use mathlib.Core.Path.{◌≡◌, refl, sym, ap, ◌∙◌, subst}
-use mathlib.Core.Bool.{Bool, true, false, ◌&&◌}
+use mathlib.Core.Bool.{true, false}
 use mathlib.Core.List.{List, [], ◌∷◌, ◌++◌}
-use mathlib.Core.Logic.{◌⊎◌, inl, inr, ⊎_elim}
+use mathlib.Core.Logic.{inl, inr, ⊎_elim}
 use borrow.Author.Tests.{eq-eqb, le-leb}
-use lib.Dec.{eqb, leb}
-use lib.ListN.{length, replicate, length-replicate}
-use Rattle.common.specs.Choice.{choose}
+use lib.Dec.{leb}
+use lib.ListN.{length, replicate}
 use Rattle.common.proofs.Joined.{and_both}
 use Rattle.journal.specs.declared.Progress.{Progress}
 use Rattle.showing.specs.Showing.{field_count}
 use Rattle.journal.specs.Stamps.{stamp_after, ticks_between, is_later}
 use Rattle.journal.specs.Rules.{journal_start, checked_from}
 use Rattle.journal.proofs.Stamped.{since_after}
-use Rattle.journal_bounds.specs.Bounds.{bounded_from}
 use Rattle.journal_changes.specs.Changes.{changes_from, journal_from, Close, CloseFrom, Outputs}
 use Rattle.journal_changes.proofs.Fields.{same_on}
 use Rattle.journal_changes.proofs.Taken.{Ready, After, tick_taken}

@@ -1,15 +1,14 @@
 -- What a tick adds to a journal keeps its rules.
 -- Assumes nothing.
-use Prim.Native.Nat.{ℕ, zero, suc, ◌+◌, ◌-◌, ◌%◌, ◌≤◌, ◌<◌}
+use Prim.Native.Nat.{ℕ, ◌+◌, ◌-◌, ◌%◌, ◌≤◌, ◌<◌}
 use native.Mathlib.Omega.{arith}
 use mathlib.Core.Path.{◌≡◌, refl, sym, ap, ◌∙◌, subst}
-use mathlib.Core.Bool.{Bool, true, false, not, ◌&&◌, ◌||◌, true≢false, false≢true}
+use mathlib.Core.Bool.{Bool, true, false, not, ◌&&◌, ◌||◌, true≢false}
 use mathlib.Core.List.{List, [], ◌∷◌, ◌++◌, append_assoc}
 use mathlib.Core.Logic.{◌⊎◌, inl, inr, ⊎_elim}
-use borrow.Author.Tests.{eqb-true, eqb-false, eq-eqb, ne_eqb, lt-ltb, leb-true}
+use borrow.Author.Tests.{eqb-true, eq-eqb, ne_eqb, lt-ltb, leb-true}
 use lib.Dec.{eqb, ltb, leb}
 use lib.ListN.{length, get_or, set, length-append}
-use Rattle.common.specs.Choice.{choose}
 use Rattle.common.proofs.Cases.{yes, no}
 use Rattle.common.proofs.Joined.{split, and_left, and_right, and_both, and_false}
 use Rattle.showing.specs.Showing.{field_count}
@@ -17,7 +16,7 @@ use Rattle.journal.specs.declared.Progress.{Progress}
 use Rattle.journal.specs.declared.Judgement.{Judgement}
 use Rattle.journal.specs.declared.Verdict.{Verdict}
 use Rattle.journal.specs.Stamps.{ticks_between, is_later}
-use Rattle.journal.specs.Rules.{highest_value, last_value, judged_stamp, judged_field, judged_value, judged_number, checked_from}
+use Rattle.journal.specs.Rules.{highest_value, judged_stamp, judged_field, judged_value, judged_number, checked_from}
 use Rattle.journal.proofs.Checks.{check_on}
 use Rattle.journal_bounds.specs.Bounds.{bounded_from}
 use Rattle.journal_changes.specs.Changes.{changes_from}
