@@ -1,6 +1,6 @@
 -- Lists of ticks through the boundary: on the image of a record they are the record's own, and on any other image all refused.
 -- Assumes nothing.
-use mathlib.Core.Path.{◌≡◌, refl, sym, ap}
+use mathlib.Core.Path.{◌≡◌, refl, sym}
 use mathlib.Core.Bool.{Bool, true, false}
 use mathlib.Core.List.{List, [], ◌∷◌, map}
 use Rattle.common.specs.Choice.{choose}

@@ -1,6 +1,6 @@
 -- The image of a record gives it back, and an image that is taken is that of the record which it gives.
 -- Assumes nothing.
-use mathlib.Core.Path.{◌≡◌, refl, sym, ap, ◌∙◌}
+use mathlib.Core.Path.{◌≡◌, refl, ap}
 use mathlib.Core.Bool.{Bool, true, false, ◌&&◌}
 use lib.ListN.{length}
 use Rattle.common.specs.Choice.{choose}

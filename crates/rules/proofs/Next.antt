@@ -1,13 +1,13 @@
 -- The tick keeps a record within its limits, and leaves a refused one as it was.
 -- Assumes nothing.
-use mathlib.Core.Path.{◌≡◌, refl, sym, ap, ◌∙◌}
-use mathlib.Core.Bool.{Bool, true, false, ◌&&◌, ◌||◌}
+use mathlib.Core.Path.{◌≡◌, refl, sym, ◌∙◌}
+use mathlib.Core.Bool.{Bool, true, false, ◌&&◌}
 use Prim.Native.Nat.{◌≤◌}
 use native.Mathlib.Omega.{arith}
 use borrow.Author.Tests.{le-leb, leb-true}
-use lib.Dec.{leb, eqb}
-use Rattle.common.proofs.Cases.{yes, no, chosen}
-use Rattle.slots.specs.Slots.{slot, in_service, t4, n_l, n_r}
+use lib.Dec.{leb}
+use Rattle.common.proofs.Cases.{chosen}
+use Rattle.slots.specs.Slots.{slot, t4, n_l, n_r}
 use Rattle.sheet.specs.Sheet.{passes_of}
 use Rattle.common.proofs.Joined.{and_left, and_right, and_four}
 use Rattle.sheet.proofs.Laws.{t4_range}
@@ -40,7 +40,7 @@ use Rattle.rules.specs.declared.Ticked.{Ticked}
 use Rattle.sensing.specs.Sensing.{sensed_of}
 use Rattle.rules.specs.Acting.{finding_of}
 use Rattle.rules.specs.Acting.{acted_of}
-use Rattle.rules.specs.Ticks.{memory_in, sensed_in, end_of, ran_of, is_out, out_of, refused_of, tick_of}
+use Rattle.rules.specs.Ticks.{memory_in, sensed_in, end_of, ran_of, out_of, refused_of, tick_of}
 use Rattle.rules.proofs.Values.{supervised_in, blocked_in, noted_in, accounted_in}
 use Rattle.rules.proofs.Lasting.{Parts, motion_parts, motion_kept, fault_rests, kind_after, kept_press, delays_are, operations_most}
 

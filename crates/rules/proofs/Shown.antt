@@ -38,7 +38,7 @@ use Rattle.rules.specs.declared.Ticked.{Ticked}
 use Rattle.claim.specs.Claim.{command_field, block_field, side_field}
 use Rattle.rules.specs.Acting.{acted_of}
 use Rattle.rules.specs.Ticks.{memory_in, sensed_in, end_of, ran_of}
-use Rattle.rules.proofs.Values.{supervised_in, blocked_in, regulated_in}
+use Rattle.rules.proofs.Values.{supervised_in, blocked_in}
 
 -- ---- the values of the rules on a tick
 

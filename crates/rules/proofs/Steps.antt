@@ -33,7 +33,6 @@ use Rattle.acting_supervising.specs.Supervising.{cleared_of, followed_of, superv
 use Rattle.rules.specs.declared.Ticked.{Ticked}
 use Rattle.rules.specs.Acting.{finding_of}
 use Rattle.rules.specs.Ticks.{is_out, out_of, refused_of, tick_of}
-use Rattle.rules.proofs.Values.{supervised_in, blocked_in}
 use Rattle.claim.specs.Claim.{Tick, rest_after, block_field, side_field, Lasting}
 use Rattle.rules.specs.Lists.{seen}
 use Rattle.rules.proofs.Next.{tick_lasting}

@@ -31,13 +31,13 @@ use Rattle.acting_supervising.specs.declared.Supervised.{Supervised}
 use Rattle.acting_judging.specs.Judging.{blocked_of}
 use Rattle.acting_supervising.specs.Supervising.{contact_of, cleared_of, holding_of, followed_of, supervised_of}
 use Rattle.acting_commanding.specs.Commanding.{heard_in, regulated_of}
-use Rattle.acting_commanding.proofs.TwoPairs.{contacts_with, memory_with, keyed, regulated_by_heard, held_begins_nothing}
+use Rattle.acting_commanding.proofs.TwoPairs.{contacts_with, memory_with, regulated_by_heard, held_begins_nothing}
 use Rattle.rules.specs.declared.Ticked.{Ticked}
 use Rattle.sensing.specs.declared.Sensed.{Sensed}
 use Rattle.sensing.specs.Sensing.{sensed_of}
 use Rattle.rules.specs.Acting.{acted_of}
-use Rattle.rules.specs.Ticks.{memory_in, sensed_in, acted_in, end_of, ran_of, is_out, out_of, refused_of, tick_of}
-use Rattle.rules.proofs.Values.{supervised_in, blocked_in, regulated_in, accounted_in}
+use Rattle.rules.specs.Ticks.{memory_in, sensed_in, end_of, ran_of, is_out, out_of, refused_of, tick_of}
+use Rattle.rules.proofs.Values.{supervised_in, blocked_in}
 use Rattle.rules.proofs.Steps.{live_is, out_is}
 
 -- the record with these keys of the previous tick, and this press remembered

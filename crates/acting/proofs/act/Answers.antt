@@ -1,5 +1,4 @@
 use Rattle.rules.proofs.Acts.{act_made}
-use borrow.Author.Rules.{rules}
 use Rattle.acting.proofs.act.Goals as goal
 
 pub returns : goal.returns

@@ -1,6 +1,5 @@
 -- `ahead_looking::begun` meets its contract.
 -- Assumes nothing.
-use borrow.Author.Rules.{rules}
 use Rattle.common.proofs.Cases.{cases}
 use Rattle.ahead.specs.Looking.{way_begun}
 use Rattle.ahead_looking.proofs.begun.Goals as goal

@@ -1,6 +1,5 @@
 -- `ahead_looking::glance_at` meets its contract.
 -- Assumes nothing.
-use borrow.Author.Rules.{rules}
 use Rattle.ahead_looking.proofs.Looks.{glance_made}
 use Rattle.ahead_looking.proofs.glance_at.Goals as goal
 

@@ -1,11 +1,10 @@
 -- `ahead_looking::look` meets its contract. The measure is what is left of the horizon.
 -- Assumes nothing.
 use Prim.Native.Nat.{◌-◌}
-use borrow.Author.Rules.{rules}
 use Rattle.record.specs.Whole.{regulator_of}
 use Rattle.rules.specs.Lists.{starts_on}
 use Rattle.ahead.specs.Looking.{outlook_from}
-use Rattle.ahead_looking.proofs.Looks.{Going, going_start, ends, looks_on, finds}
+use Rattle.ahead_looking.proofs.Looks.{Going}
 use Rattle.ahead_looking.proofs.look.Given as goal
 
 abbrev pub invariant-loop-ticks : goal.invariant-loop-ticks

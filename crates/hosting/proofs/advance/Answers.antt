@@ -1,7 +1,6 @@
 -- `hosting::advance` meets its contract: the tick of the state that the numbers give, or its refusal. Assumes nothing.
 use Rattle.hosting.specs.Hosting.{refused_image}
 use Rattle.hosting.proofs.Hosted.{state_advanced, none_advanced}
-use borrow.Author.Rules.{rules}
 use Rattle.hosting.proofs.advance.Goals as goal
 
 pub returns-then-is_state : goal.returns-then-is_state

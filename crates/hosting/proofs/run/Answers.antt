@@ -1,6 +1,5 @@
 -- `hosting::run` meets its contract, by what each call ensures. Assumes nothing.
 use Rattle.hosting.proofs.Hosted.{run_made}
-use borrow.Author.Rules.{rules}
 use Rattle.hosting.proofs.run.Goals as goal
 
 pub returns : goal.returns

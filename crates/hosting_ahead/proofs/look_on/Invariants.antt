@@ -1,11 +1,10 @@
 -- `hosting_ahead::look_on` meets its contract. The measure is what is left of the horizon. Assumes nothing.
 use Prim.Native.Nat.{◌-◌}
-use borrow.Author.Rules.{rules}
 use Rattle.rules.specs.Lists.{starts_on}
 use Rattle.ahead.specs.Looking.{outlook_from}
 use Rattle.image.specs.Images.{image_with, record_of}
 use Rattle.image_input.specs.Bringing.{input_of}
-use Rattle.hosting_ahead.proofs.Outlooks.{Sees, sees_start, sees_on, sees_found, sees_end}
+use Rattle.hosting_ahead.proofs.Outlooks.{Sees}
 use Rattle.hosting_ahead.proofs.look_on.Given as goal
 
 abbrev pub invariant-loop-ticks : goal.invariant-loop-ticks

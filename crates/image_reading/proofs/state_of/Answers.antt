@@ -1,6 +1,5 @@
 -- `image_reading::state_of` meets its contract, by what each call ensures. Assumes nothing.
 use Rattle.image_reading.proofs.Made.{state_made}
-use borrow.Author.Rules.{rules}
 use Rattle.image_reading.proofs.state_of.Goals as goal
 
 pub returns : goal.returns

@@ -1,6 +1,5 @@
 -- `image_writing::way_numbers` meets its contract, by what each call ensures. Assumes nothing.
 use Rattle.image.specs.Images.{way_numbers}
-use borrow.Author.Rules.{rules}
 use Rattle.image_writing.proofs.way_numbers.Goals as goal
 
 pub returns : goal.returns

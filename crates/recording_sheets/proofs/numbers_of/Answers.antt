@@ -1,7 +1,5 @@
 use borrow.Author.Rules.{rules}
-use Prim.Native.Nat.{◌≤◌, ◌-◌}
-use Rattle.slots.specs.Slots.{slots}
-use Rattle.recording_sheets.proofs.Starts.{Upto, none_read_lem, one_read, all_read}
+use Rattle.recording_sheets.proofs.Starts.{none_read_lem, one_read, all_read}
 use Rattle.recording_sheets.proofs.numbers_of.Goals as goal
 
 pub loop-i-init : goal.loop-i-init

@@ -1,9 +1,8 @@
 -- `recording_sheets::numbers_of` meets its contract: the numbers read so far are the file's.
 -- Assumes nothing.
-use borrow.Author.Rules.{rules}
 use Prim.Native.Nat.{◌≤◌, ◌-◌}
 use Rattle.slots.specs.Slots.{slots}
-use Rattle.recording_sheets.proofs.Starts.{Upto, none_read_lem, one_read, all_read}
+use Rattle.recording_sheets.proofs.Starts.{Upto}
 use Rattle.recording_sheets.proofs.numbers_of.Given as goal
 
 abbrev pub invariant-loop-i : goal.invariant-loop-i

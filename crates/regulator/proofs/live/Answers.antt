@@ -1,5 +1,4 @@
 use Rattle.rules.proofs.Made.{live_made}
-use borrow.Author.Rules.{rules}
 use Rattle.regulator.proofs.live.Goals as goal
 
 pub returns : goal.returns

@@ -1,6 +1,5 @@
 use Rattle.rules.specs.Ticks.{out_of}
 use Rattle.record_starting.specs.Starting.{fresh_of}
-use borrow.Author.Rules.{rules}
 use Rattle.regulator.proofs.out_of_service.Goals as goal
 
 pub returns : goal.returns

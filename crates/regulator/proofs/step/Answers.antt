@@ -1,5 +1,4 @@
 use Rattle.rules.proofs.Made.{step_out, step_live, step_refused}
-use borrow.Author.Rules.{rules}
 use Rattle.regulator.proofs.step.Goals as goal
 
 pub returns-then-s-c : goal.returns-then-s-c
