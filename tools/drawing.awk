@@ -16,10 +16,11 @@ BEGIN {
 {
     name = $1
     sub(/:$/, "", name)
+    first = $2 == "staticlib:" ? 3 : 2 # a static library
     if (!rooms) stop(name " stands in no room")
     home[name] = rooms
     held[rooms, lines[rooms] + 0, ++count[rooms, lines[rooms] + 0]] = name
-    for (i = 2; i <= NF; i++) use(name, $i)
+    for (i = first; i <= NF; i++) use(name, $i)
     listed[name] = 1
 }
 
