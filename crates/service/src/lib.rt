@@ -1,5 +1,5 @@
-// The library for what the sealed unit does not run, for a host in C or Rust: the journal's text. `c/avr_service.h` has the same
-// declarations for C.
+// The library for what the sealed unit does not run, for a host in C or Rust: the journal's text. A header for C is
+// to come.
 #![tactic(auto)]
 
 ghost use Rattle.std.specs.Prelude.{◌≡◌, length};
