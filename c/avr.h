@@ -2,7 +2,7 @@
  * avr.h - a transformer tap-changer voltage regulator, for a host in C.
  *
  * The functions are those of the crate `boundary`, proved against their
- * contracts and archived by `rt staticlib boundary` as
+ * contracts and archived by `tools/build boundary` as
  * target/staticlib/libboundary.a (x86-64 Linux). No compiler checks this file
  * against the proved sources; tools/boundary-tests does: it reads every name,
  * number and struct below beside the sources in crates/, and the bytes that
