@@ -38,7 +38,7 @@ pub fn fill<F: Read>(file: &mut F, buffer: &mut [u8]) -> Filled
     }
 }
 
-// The file of this name, to be read. No file has a name that is not UTF-8.
+// The file of this name, to be read. The library takes no name that is not UTF-8, so such a file is none.
 pub fn open<R: Files>(rt: &R, path: &[u8]) -> Option<R::File> {
     let name = str::from_utf8(path).ok()?;
     File::open(rt, name).ok()
