@@ -1,6 +1,7 @@
 // Files, read from their start or from where the last read ended, until a buffer is full.
 #![tactic(auto)]
 
+ghost use Rattle.std.specs.Prelude.{IfSome, IsUtf8};
 ghost use Rattle.files.specs.Counts.{IsPrefixLen};
 
 use std::fs::File;
@@ -39,7 +40,9 @@ pub fn fill<F: Read>(file: &mut F, buffer: &mut [u8]) -> Filled
 }
 
 // The file of this name, to be read. The library takes no name that is not UTF-8, so such a file is none.
-pub fn open<R: Files>(rt: &R, path: &[u8]) -> Option<R::File> {
+pub fn open<R: Files>(rt: &R, path: &[u8]) -> Option<R::File>
+    ensures { IfSome result (λ file. IsUtf8 path.now) }
+{
     let name = str::from_utf8(path).ok()?;
     File::open(rt, name).ok()
 }
