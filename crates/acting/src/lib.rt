@@ -18,17 +18,12 @@ use slots::SLOTS;
 fn finding_of(x: Sensed) -> Finding
     ensures { result ≡ finding_of x }
 {
-    let observed = x.observed;
-    let position = observed.position;
-    let organs = x.organs;
-    let trips = organs.trips;
-    let assessed = x.assessed;
-    let level = assessed.level;
+    let trips = x.organs.trips;
     Finding {
-        section: observed.section,
-        level: level,
-        trips: trips,
-        tap: position.tap,
+        section: x.observed.section,
+        level: x.assessed.level,
+        trips,
+        tap: x.observed.position.unwrap_or(0),
     }
 }
 
@@ -45,20 +40,16 @@ pub fn act(
     ensures { result ≡ acted_of s.now c x d l m w }
 {
     let found = finding_of(x);
-    let last = w.last;
-    let supervised = acting_supervising::supervise(s, c, found, d, l, last);
-    let latched = supervised.latch;
-    let fault = latched.fault;
+    let supervised = acting_supervising::supervise(s, c, found, d, l, w.last);
+    let fault = supervised.latch.fault;
     let blocks = acting_judging::block(s, c, fault, found);
-    let assessed = x.assessed;
     let followed = supervised.drive;
-    let regulated = acting_commanding::regulate(s, c, assessed, blocks, m, d, followed, fault);
-    let ended = supervised.ended;
-    let accounted = acting_accounting::account(s, ended, supervised.operation, w);
+    let regulated = acting_commanding::regulate(s, c, x.assessed, blocks, m, d, followed, fault);
+    let accounted = acting_accounting::account(s, supervised.ended, supervised.operation, w);
     Acted {
-        supervised: supervised,
-        blocks: blocks,
-        regulated: regulated,
-        accounted: accounted,
+        supervised,
+        blocks,
+        regulated,
+        accounted,
     }
 }

@@ -1,8 +1,8 @@
 -- Rule 7 of 01: "an ended move, fast or not, becomes the last direction, adds 1 to operations .. and .. steps the counted tap". Definitions only.
-use Rattle.std.specs.Prelude.{ℕ, ◌+◌, Bool, List, ltb, eqb}
+use Rattle.std.specs.Prelude.{ℕ, ◌+◌, Bool, List, ltb, eqb, Option}
 use Rattle.common.specs.Choice.{choose}
 use Rattle.slots.specs.Slots.{slot, wear_count}
-use Rattle.ways.specs.declared.Way.{Way}
+use Rattle.ways.specs.declared.Direction.{Direction}
 use Rattle.ways.specs.Ways.{newer_of}
 use Rattle.tap_counted.specs.Counted.{counted_of}
 use Rattle.acting_accounting.specs.declared.Accounted.{Accounted}
@@ -20,7 +20,7 @@ unfoldable pub operations_of : List ℕ → ℕ → Bool → ℕ
 operations_of s n operation = choose operation (one_more_of s n) n
 
 -- a move that ended, and whether an operation counts; 02, ticket 2: without a contact "each command counts as one operation when it ends"
-unfoldable pub accounted_of : List ℕ → Way → Bool → Wear → Accounted
+unfoldable pub accounted_of : List ℕ → Option Direction → Bool → Wear → Accounted
 accounted_of s ended operation w =
     record {
       wear =

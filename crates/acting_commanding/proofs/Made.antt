@@ -5,21 +5,21 @@ use mathlib.Core.Bool.{Bool, ◌&&◌, ◌||◌}
 use mathlib.Core.List.{List}
 use Prim.Native.Nat.{ℕ}
 use Rattle.input.specs.declared.Contacts.{Contacts}
-use Rattle.ways.specs.declared.Way.{Way}
-use Rattle.keys.specs.declared.Buttons.{Buttons}
+use Rattle.std.specs.Prelude.{Option}
+use Rattle.ways.specs.declared.Direction.{Direction}
 use Rattle.keys.specs.declared.Keys.{Keys}
 use Rattle.drive.specs.declared.Drive.{Drive}
 use Rattle.drive_follow.specs.Follow.{rests_of}
 use Rattle.fault.specs.declared.Fault.{Fault}
 use Rattle.fault.specs.Latches.{is_fault}
 use Rattle.blocks.specs.declared.Blocks.{Blocks}
+use Rattle.command.specs.declared.Heard.{Heard}
 use Rattle.command.specs.declared.Decided.{Decided}
 use Rattle.command.specs.declared.Memory.{Memory}
 use Rattle.command.specs.declared.Situation.{Situation}
 use Rattle.command.specs.declared.Wait.{Wait}
 use Rattle.command_deciding.specs.Deciding.{decided_of}
 use Rattle.command_manual.specs.Manual.{remembered_of}
-use Rattle.command_pairs.specs.declared.Heard.{Heard}
 use Rattle.command_pairs.specs.Pairs.{heard_of}
 use Rattle.sensing_assessing.specs.declared.Assessed.{Assessed}
 use Rattle.acting_commanding.specs.declared.Noted.{Noted}
@@ -29,14 +29,14 @@ use Rattle.busbar_level.specs.Levels.{side_of, is_in_band}
 use Rattle.acting_commanding.specs.Commanding.{ask_of, noted_of, situated_of, situation_of, decision_of, drops_of, kept_press_of, memory_of, regulated_of}
 
 -- what the rule finds
-module _ (level : Level) (far : Bool) (now before : Keys) (press : Way) (was : Drive) where
-  pub note_made : {side : Way} {heard : Heard} {rested : Bool} → side ≡ side_of level → heard ≡ heard_of now before press → rested ≡ rests_of was
+module _ (level : Option Level) (far : Bool) (now before : Keys) (press : Option Direction) (was : Drive) where
+  pub note_made : {side : Option Direction} {heard : Heard} {rested : Bool} → side ≡ side_of level → heard ≡ heard_of now before press → rested ≡ rests_of was
       → ◌≡◌ {A = Noted} (record { side = side; far = far; heard = heard; rested = rested })
       (record { side = side_of level; far = far; heard = heard_of now before press; rested = rests_of was })
   note_made p q u = rw (p, q, u)
 
 -- what it goes by
-module _ (s : List ℕ) (rested automatic far : Bool) (side repeat remembered : Way) (b : Blocks) (wait : Wait) (buttons before : Buttons) where
+module _ (s : List ℕ) (rested automatic far : Bool) (side repeat : Option Direction) (b : Blocks) (wait : Option Wait) (heard : Heard) where
   abbrev situation : Bool → Situation
   situation resting =
       record {
@@ -47,9 +47,7 @@ module _ (s : List ℕ) (rested automatic far : Bool) (side repeat remembered : 
         blocks = b;
         wait = wait;
         repeat = repeat;
-        buttons = buttons;
-        before = before;
-        remembered = remembered;
+        heard = heard;
       }
 
   pub decide_made : (d : Drive) {r : Decided} {rests : Bool} → rests ≡ rests_of d → r ≡ decided_of s (situation (rested && rests))
@@ -57,21 +55,21 @@ module _ (s : List ℕ) (rested automatic far : Bool) (side repeat remembered : 
   decide_made d p q = rw (← p) q
 
 -- what drops a press
-pub drops_made : (c : Contacts) (f : Fault) {fault : Bool} → fault ≡ is_fault f → (fault || c.automatic || c.local_drive) ≡ drops_of c f
+pub drops_made : (c : Contacts) (f : Option Fault) {fault : Bool} → fault ≡ is_fault f → (fault || c.automatic || c.local_drive) ≡ drops_of c f
 unfolding drops_of
 drops_made c f p = rw p
 
 -- what it keeps
-module _ (c : Contacts) (f : Fault) (n : Noted) (wait : Wait) (keys : Keys) where
-  pub keep_made : {again repeat remembered : Way} {dropped : Bool} → again ≡ repeat → dropped ≡ drops_of c f
-      → remembered ≡ remembered_of n.rested dropped n.heard.buttons n.heard.before n.heard.remembered
+module _ (c : Contacts) (f : Option Fault) (n : Noted) (wait : Option Wait) (keys : Keys) where
+  pub keep_made : {again repeat remembered : Option Direction} {dropped : Bool} → again ≡ repeat → dropped ≡ drops_of c f
+      → remembered ≡ remembered_of n.rested dropped n.heard
       → ◌≡◌ {A = Memory} (record { wait = wait; repeat = again; keys = keys; remembered = remembered })
       (record { wait = wait; repeat = repeat; keys = keys; remembered = kept_press_of c f n })
   unfolding kept_press_of
   keep_made p q u = rw (u, q, p)
 
 -- rule 9
-module _ (s : List ℕ) (c : Contacts) (a : Assessed) (b : Blocks) (m : Memory) (was d : Drive) (f : Fault) where
+module _ (s : List ℕ) (c : Contacts) (a : Assessed) (b : Blocks) (m : Memory) (was d : Drive) (f : Option Fault) where
   pub regulate_made : {n : Noted} {decided : Decided} {band : Bool} {memory : Memory} {drive : Drive}
       → n ≡ noted_of c a m was
       → decided ≡ decided_of s (situated_of c b m n d)

@@ -6,16 +6,15 @@ use Rattle.common.proofs.Cases.{cases}
 use Rattle.ways.specs.declared.Direction.{Direction}
 use Rattle.drive.specs.declared.Drive.{Drive}
 use Rattle.drive.specs.declared.Drive.TheVariants.{Asked}
-use Rattle.ways.specs.declared.Way.{Way}
-use Rattle.ways.specs.declared.Way.TheVariants.{Neither, To}
+use Rattle.std.specs.Prelude.{Option, None, Some}
 use Rattle.acting_commanding.specs.Commanding.{ask_of}
 
-module _ (r d : Drive) (b : Bool) (w : Way) where
-  pub ask_neither : w ≡ Neither → r ≡ d → r ≡ ask_of d b w
+module _ (r d : Drive) (b : Bool) (w : Option Direction) where
+  pub ask_neither : w ≡ None → r ≡ d → r ≡ ask_of d b w
   unfolding ask_of
   ask_neither p q = rw p q
 
-  pub ask_to : (e : Direction) → w ≡ To e → r ≡ Asked e 0 b → r ≡ ask_of d b w
+  pub ask_to : (e : Direction) → w ≡ Some e → r ≡ Asked e 0 b → r ≡ ask_of d b w
   unfolding ask_of
   ask_to e p q = rw p q
 

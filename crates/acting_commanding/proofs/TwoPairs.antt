@@ -7,8 +7,8 @@ use Prim.Native.Nat.{ℕ}
 use Rattle.input.specs.declared.Contacts.{Contacts}
 use Rattle.drive.specs.declared.Drive.{Drive}
 use Rattle.fault.specs.declared.Fault.{Fault}
-use Rattle.ways.specs.declared.Way.{Way}
-use Rattle.ways.specs.declared.Way.TheVariants.{Neither}
+use Rattle.std.specs.Prelude.{Option, None}
+use Rattle.ways.specs.declared.Direction.{Direction}
 use Rattle.blocks.specs.declared.Blocks.{Blocks}
 use Rattle.keys.specs.declared.Keys.{Keys}
 use Rattle.command.specs.declared.Memory.{Memory}
@@ -45,16 +45,16 @@ contacts_with k c =
     }
 
 -- what rule 9 keeps, with these keys and this press
-abbrev pub memory_with : Keys → Way → Memory → Memory
+abbrev pub memory_with : Keys → Option Direction → Memory → Memory
 memory_with k press m = record { wait = m.wait; repeat = m.repeat; keys = k; remembered = press }
 
 -- what rule 9 keeps, but for the keys, which are these
 abbrev pub keyed : Keys → Memory → Memory
 keyed k m = memory_with k m.remembered m
 
-module _ (c : Contacts) (m : Memory) (now before : Keys) (press : Way) (h : heard_of now before press ≡ heard_in c m) where
+module _ (c : Contacts) (m : Memory) (now before : Keys) (press : Option Direction) (h : heard_of now before press ≡ heard_in c m) where
   -- the same drive, and the same memory but for the keys, which are this tick's
-  pub regulated_by_heard : (s : List ℕ) (a : Assessed) (b : Blocks) (was d : Drive) (f : Fault)
+  pub regulated_by_heard : (s : List ℕ) (a : Assessed) (b : Blocks) (was d : Drive) (f : Option Fault)
       → regulated_of s (contacts_with now c) a b (memory_with before press m) was d f
       ≡ record { drive = (regulated_of s c a b m was d f).drive; memory = keyed now (regulated_of s c a b m was d f).memory }
   unfolding regulated_of decision_of situation_of kept_press_of drops_of
@@ -62,13 +62,13 @@ module _ (c : Contacts) (m : Memory) (now before : Keys) (press : Way) (h : hear
 
 -- nothing begins in manual mode on the tick of a change, where the buttons of the new mode's pair are held over from the previous tick
 module _ (c : Contacts) (m : Memory) where
-  unheard : changed_of c.keys m.keys ≡ true → (heard_in c m).remembered ≡ Neither
+  unheard : changed_of c.keys m.keys ≡ true → (heard_in c m).remembered ≡ None
   unheard k = change_drops c.keys m.keys m.remembered k
 
   pub held_begins_nothing : c.automatic ≡ false → changed_of c.keys m.keys ≡ true
       → ((pair_of c.keys.remote c.keys).raise ≡ true → (pair_of c.keys.remote m.keys).raise ≡ true)
       → ((pair_of c.keys.remote c.keys).lower ≡ true → (pair_of c.keys.remote m.keys).lower ≡ true)
-      → (s : List ℕ) (a : Assessed) (b : Blocks) (was d : Drive) (f : Fault) → (regulated_of s c a b m was d f).drive ≡ d
+      → (s : List ℕ) (a : Assessed) (b : Blocks) (was d : Drive) (f : Option Fault) → (regulated_of s c a b m was d f).drive ≡ d
   unfolding regulated_of decision_of situation_of ask_of
   held_begins_nothing e k p q s a b was d f =
       rw (none_begins s (situation_of c a b m was d) e (held_through c.keys m.keys m.remembered p q) (unheard k))

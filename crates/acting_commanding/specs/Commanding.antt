@@ -1,15 +1,14 @@
 -- Rule 9 of 01, and 02, tickets 6 and 7. Definitions only.
-use Rattle.std.specs.Prelude.{ℕ, Bool, ◌&&◌, ◌||◌, List}
+use Rattle.std.specs.Prelude.{ℕ, Bool, ◌&&◌, ◌||◌, List, Option, None, Some}
 use Rattle.input.specs.declared.Contacts.{Contacts}
 use Rattle.drive.specs.declared.Drive.{Drive}
 use Rattle.drive.specs.declared.Drive.TheVariants.{Asked}
-use Rattle.ways.specs.declared.Way.{Way}
-use Rattle.ways.specs.declared.Way.TheVariants.{Neither, To}
+use Rattle.ways.specs.declared.Direction.{Direction}
 use Rattle.drive_follow.specs.Follow.{rests_of}
 use Rattle.fault.specs.declared.Fault.{Fault}
 use Rattle.fault.specs.Latches.{is_fault}
 use Rattle.blocks.specs.declared.Blocks.{Blocks}
-use Rattle.command_pairs.specs.declared.Heard.{Heard}
+use Rattle.command.specs.declared.Heard.{Heard}
 use Rattle.command.specs.declared.Decided.{Decided}
 use Rattle.command.specs.declared.Memory.{Memory}
 use Rattle.command.specs.declared.Situation.{Situation}
@@ -23,9 +22,9 @@ use Rattle.acting_commanding.specs.declared.Regulated.{Regulated}
 use Rattle.busbar_level.specs.Levels.{side_of, is_in_band}
 
 -- a command that begins is asked, at age 0, in the mode of its tick
-unfoldable pub ask_of : Drive → Bool → Way → Drive
-ask_of d automatic Neither = d
-ask_of d automatic (To e) = Asked e 0 automatic
+unfoldable pub ask_of : Drive → Bool → Option Direction → Drive
+ask_of d automatic None = d
+ask_of d automatic (Some e) = Asked e 0 automatic
 
 -- the mode's pair of buttons, and the press that is still remembered
 abbrev pub heard_in : Contacts → Memory → Heard
@@ -46,9 +45,7 @@ situated_of c b m n d =
       blocks = b;
       wait = m.wait;
       repeat = m.repeat;
-      buttons = n.heard.buttons;
-      before = n.heard.before;
-      remembered = n.heard.remembered;
+      heard = n.heard;
     }
 
 unfoldable pub situation_of : Contacts → Assessed → Blocks → Memory → Drive → Drive → Situation
@@ -59,15 +56,15 @@ decision_of s c a b m was d = decided_of s (situation_of c a b m was d)
 
 -- 02, ticket 6: "fault, automatic, local drive and out drop it", so that a press is remembered "in manual mode" alone; out is rule 1, whose
 -- fresh record holds none
-unfoldable pub drops_of : Contacts → Fault → Bool
+unfoldable pub drops_of : Contacts → Option Fault → Bool
 drops_of c f = is_fault f || c.automatic || c.local_drive
 
 -- the press that is remembered after the tick; f is the fault as rule 7 left it
-unfoldable pub kept_press_of : Contacts → Fault → Noted → Way
-kept_press_of c f n = remembered_of n.rested (drops_of c f) n.heard.buttons n.heard.before n.heard.remembered
+unfoldable pub kept_press_of : Contacts → Option Fault → Noted → Option Direction
+kept_press_of c f n = remembered_of n.rested (drops_of c f) n.heard
 
 -- what rule 9 keeps for the next tick: the wait, the side for which T2 is in force, this tick's keys, and the press
-abbrev pub memory_of : Contacts → Bool → Fault → Memory → Noted → Decided → Memory
+abbrev pub memory_of : Contacts → Bool → Option Fault → Memory → Noted → Decided → Memory
 memory_of c in_band f m n decided =
     record {
       wait = decided.wait;
@@ -77,7 +74,7 @@ memory_of c in_band f m n decided =
     }
 
 -- rule 9, with the drive as the tick started, and the drive and the fault as rule 7 left them
-unfoldable pub regulated_of : List ℕ → Contacts → Assessed → Blocks → Memory → Drive → Drive → Fault → Regulated
+unfoldable pub regulated_of : List ℕ → Contacts → Assessed → Blocks → Memory → Drive → Drive → Option Fault → Regulated
 regulated_of s c a b m was d f =
     record {
       drive = ask_of d c.automatic (decision_of s c a b m was d).command;

@@ -6,25 +6,25 @@ ghost use Rattle.acting_commanding.specs.Commanding.{ask_of, situated_of, noted_
 ghost use Rattle.command_deciding.specs.Deciding.{decided_of};
 
 use blocks::Blocks;
-use command::{Decided, Memory, Situation};
-use command_pairs::Heard;
+use command::{Decided, Heard, Memory, Situation};
 use drive::Drive;
 use fault::Fault;
 use input::Contacts;
 use sensing_assessing::Assessed;
 use slots::SLOTS;
-use ways::Way;
+use ways::Direction;
 
 // The drive once a command has begun, in this mode.
-fn ask(d: Drive, automatic: bool, command: Way) -> Drive
+#[tactic(auto, using(crate::proofs::Parts::parts), unfolding(crate::specs::Commanding::ask_of))]
+fn ask(d: Drive, automatic: bool, command: Option<Direction>) -> Drive
     ensures { result ≡ ask_of d automatic command }
 {
     match command {
-        Way::Neither => d,
-        Way::To(e) => Drive::Asked {
-            direction: e,
+        None => d,
+        Some(direction) => Drive::Asked {
+            direction,
             age: 0,
-            automatic: automatic,
+            automatic,
         },
     }
 }
@@ -40,41 +40,34 @@ pub struct Regulated {
 // rested as the tick started.
 #[derive(Clone, Copy)]
 pub struct Noted {
-    pub side: Way,
+    pub side: Option<Direction>,
     pub far: bool,
     pub heard: Heard,
     pub rested: bool,
 }
 
 // The decision. `d` is the drive as rule 7 left it.
+#[tactic(auto, using(crate::proofs::Made::decide_made))]
 fn decide(s: &[u32; SLOTS], c: Contacts, b: Blocks, m: Memory, n: Noted, d: Drive) -> Decided
     ensures { result ≡ decided_of s.now (situated_of c b m n d) }
 {
     let rests = drive_follow::rests(d);
-    let side = n.side;
-    let wait = m.wait;
-    let repeat = m.repeat;
-    let heard = n.heard;
-    let buttons = heard.buttons;
-    let before = heard.before;
-    let remembered = heard.remembered;
     let x = Situation {
         resting: n.rested & rests,
         automatic: c.automatic,
-        side: side,
+        side: n.side,
         far: n.far,
         blocks: b,
-        wait: wait,
-        repeat: repeat,
-        buttons: buttons,
-        before: before,
-        remembered: remembered,
+        wait: m.wait,
+        repeat: m.repeat,
+        heard: n.heard,
     };
     command_deciding::decide(s, x)
 }
 
 // What drops a remembered press, out aside: a fault, automatic mode, local drive.
-fn drops(c: Contacts, f: Fault) -> bool
+#[tactic(auto, using(crate::proofs::Made::drops_made))]
+fn drops(c: Contacts, f: Option<Fault>) -> bool
     ensures { result ≡ drops_of c f }
 {
     let fault = fault::is_fault(f);
@@ -82,49 +75,48 @@ fn drops(c: Contacts, f: Fault) -> bool
 }
 
 // What the rule keeps for the next tick. `f` is the fault as rule 7 left it.
-fn keep(c: Contacts, in_band: bool, f: Fault, m: Memory, n: Noted, decided: Decided) -> Memory
+#[tactic(auto, unfolding(crate::specs::Commanding::kept_press_of))]
+fn keep(
+    c: Contacts,
+    in_band: bool,
+    f: Option<Fault>,
+    m: Memory,
+    n: Noted,
+    decided: Decided,
+) -> Memory
     ensures { result ≡ memory_of c in_band f m n decided }
 {
-    let side = n.side;
-    let command = decided.command;
-    let old = m.repeat;
-    let again = command_automatic::next_repeat(c.automatic, in_band, side, command, old);
+    let again = command_automatic::next_repeat(
+        c.automatic,
+        in_band,
+        n.side,
+        decided.command,
+        m.repeat,
+    );
     let dropped = drops(c, f);
-    let heard = n.heard;
-    let now = heard.buttons;
-    let before = heard.before;
-    let earlier = heard.remembered;
-    let remembered = command_manual::remember(n.rested, dropped, now, before, earlier);
-    let wait = decided.wait;
-    let keys = c.keys;
     Memory {
-        wait: wait,
+        wait: decided.wait,
         repeat: again,
-        keys: keys,
-        remembered: remembered,
+        keys: c.keys,
+        remembered: command_manual::remember(n.rested, dropped, n.heard),
     }
 }
 
 // What the rule finds. `was` is the drive as the tick started.
+#[tactic(auto, using(crate::proofs::Made::note_made))]
 fn note(c: Contacts, a: Assessed, m: Memory, was: Drive) -> Noted
     ensures { result ≡ noted_of c a m was }
 {
-    let level = a.level;
-    let side = busbar_level::side_of(level);
-    let now = c.keys;
-    let before = m.keys;
-    let press = m.remembered;
-    let heard = command_pairs::hear(now, before, press);
-    let rested = drive_follow::rests(was);
     Noted {
-        side: side,
+        side: busbar_level::side_of(a.level),
         far: a.far,
-        heard: heard,
-        rested: rested,
+        heard: command_pairs::hear(c.keys, m.keys, m.remembered),
+        rested: drive_follow::rests(was),
     }
 }
 
 // Rule 9. `was` is the drive as the tick started; `d` and `f` are the drive and the fault as rule 7 left them.
+#[tactic(auto, using(crate::proofs::Made::regulate_made))]
 pub fn regulate(
     s: &[u32; SLOTS],
     c: Contacts,
@@ -133,19 +125,15 @@ pub fn regulate(
     m: Memory,
     was: Drive,
     d: Drive,
-    f: Fault,
+    f: Option<Fault>,
 ) -> Regulated
     ensures { result ≡ regulated_of s.now c a b m was d f }
 {
-    let level = a.level;
     let noted = note(c, a, m, was);
     let decided = decide(s, c, b, m, noted, d);
-    let band = busbar_level::is_in_band(level);
-    let memory = keep(c, band, f, m, noted, decided);
-    let command = decided.command;
-    let drive = ask(d, c.automatic, command);
+    let band = busbar_level::is_in_band(a.level);
     Regulated {
-        drive: drive,
-        memory: memory,
+        drive: ask(d, c.automatic, decided.command),
+        memory: keep(c, band, f, m, noted, decided),
     }
 }

@@ -14,24 +14,22 @@ use slots::SLOTS;
 #[derive(Clone, Copy)]
 pub struct Finding {
     pub section: bool,
-    pub level: Level,
+    pub level: Option<Level>,
     pub trips: [bool; 7],
     pub tap: u32,
 }
 
 // Rule 8, with the fault `f`.
-pub fn block(s: &[u32; SLOTS], c: Contacts, f: Fault, x: Finding) -> Blocks
+#[tactic(auto, unfolding(crate::specs::Judging::blocked_of))]
+pub fn block(s: &[u32; SLOTS], c: Contacts, f: Option<Fault>, x: Finding) -> Blocks
     ensures { result ≡ blocked_of s.now c f x }
 {
-    let level = x.level;
     let trips = x.trips;
-    let fault = fault::is_fault(f);
-    let missing = busbar_level::is_missing(level);
     let found = Found {
-        fault: fault,
+        fault: fault::is_fault(f),
         section: x.section,
-        u_missing: missing,
-        trips: trips,
+        u_missing: busbar_level::is_missing(x.level),
+        trips,
         tap: x.tap,
     };
     blocks::judge_blocks(s, c, found)

@@ -25,8 +25,8 @@ use Rattle.drive_hold.proofs.Kept as holding
 use Rattle.drive_follow.proofs.Serving as serving
 use Rattle.fault.specs.declared.Latch.{Latch}
 use Rattle.fault.specs.Latches.{is_fault, long_or_none}
-use Rattle.ways.specs.declared.Way.{Way}
-use Rattle.ways.specs.declared.Way.TheVariants.{Neither}
+use Rattle.std.specs.Prelude.{Option, None}
+use Rattle.ways.specs.declared.Direction.{Direction}
 use Rattle.acting_judging.specs.declared.Finding.{Finding}
 use Rattle.acting_supervising.specs.Supervising.{contact_of, holding_of, followed_of}
 
@@ -34,7 +34,7 @@ use Rattle.acting_supervising.specs.Supervising.{contact_of, holding_of, followe
 abbrev pub Free : List ℕ → Contacts → Type 0
 Free s c = (slot s continuous ≡ 1) ⊎ (c.switching ≡ false)
 
-module _ (s : List ℕ) (c : Contacts) (x : Finding) (d : Drive) (l : Latch) (last : Way) where
+module _ (s : List ℕ) (c : Contacts) (x : Finding) (d : Drive) (l : Latch) (last : Option Direction) where
   abbrev contact : Contact
   contact = contact_of s c x.tap l last
 
@@ -58,10 +58,10 @@ module _ (s : List ℕ) (c : Contacts) (x : Finding) (d : Drive) (l : Latch) (la
   each P p q = chosen P _ _ _ p q
 
   -- at rest: no command is on; where no contact closes, nothing
-  pub rest_silent : (n : ℕ) → rests_of d ≡ true → on_of followed.drive n ≡ Neither
+  pub rest_silent : (n : ℕ) → rests_of d ≡ true → on_of followed.drive n ≡ None
   unfolding on_of
   rest_silent n e =
-      each (λ (o : Followed). on_of o.drive n ≡ Neither) (λ p. subst (λ (o : Followed). on_of o.drive n ≡ Neither) (holding.rest_holds held d e) refl)
+      each (λ (o : Followed). on_of o.drive n ≡ None) (λ p. subst (λ (o : Followed). on_of o.drive n ≡ None) (holding.rest_holds held d e) refl)
       (λ p. serving.rest_silent contact d n e)
 
   pub rest_free : rests_of d ≡ true → Free s c → unmoved_of Resting ≡ followed

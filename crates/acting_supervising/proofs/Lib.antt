@@ -1,3 +1,2 @@
 pub mod EachKind
-pub mod Made
 pub mod Opened

@@ -1,11 +1,11 @@
 -- Rules 2 and 7 of 01, and 02, ticket 2, for either kind of drive. Definitions only.
-use Rattle.std.specs.Prelude.{ℕ, List}
+use Rattle.std.specs.Prelude.{ℕ, List, Option}
 use Rattle.common.specs.Choice.{choose}
 use Rattle.slots.specs.Slots.{slot, t4, t5, t6, t8, is_continuous}
 use Rattle.input.specs.declared.Contacts.{Contacts}
 use Rattle.drive.specs.declared.Drive.{Drive}
 use Rattle.fault.specs.declared.Latch.{Latch}
-use Rattle.ways.specs.declared.Way.{Way}
+use Rattle.ways.specs.declared.Direction.{Direction}
 use Rattle.drive_follow.specs.declared.Contact.{Contact}
 use Rattle.drive_follow.specs.declared.Followed.{Followed}
 use Rattle.drive_follow.specs.Follow.{follow_of}
@@ -19,7 +19,7 @@ use Rattle.busbar_level.specs.Levels.{side_of, is_in_band}
 use Rattle.acting_judging.specs.Judging.{blocked_of}
 
 -- what a drive with a switching contact goes by: bit 15 local drive, bit 1 the switching contact, the latch after reset, the tap of rule 4
-unfoldable pub contact_of : List ℕ → Contacts → ℕ → Latch → Way → Contact
+unfoldable pub contact_of : List ℕ → Contacts → ℕ → Latch → Option Direction → Contact
 contact_of s c tap l last =
     record {
       local = c.local_drive;
@@ -50,10 +50,10 @@ holding_of s c x l =
     }
 
 -- rule 7, by the kind of drive; the latch is the one after reset
-unfoldable pub followed_of : List ℕ → Contacts → Finding → Drive → Latch → Way → Followed
+unfoldable pub followed_of : List ℕ → Contacts → Finding → Drive → Latch → Option Direction → Followed
 followed_of s c x d l last = choose (is_continuous s) (hold_of d (holding_of s c x l)) (follow_of d (contact_of s c x.tap l last))
 
-unfoldable pub supervised_of : List ℕ → Contacts → Finding → Drive → Latch → Way → Supervised
+unfoldable pub supervised_of : List ℕ → Contacts → Finding → Drive → Latch → Option Direction → Supervised
 supervised_of s c x d l last =
     record {
       drive = (followed_of s c x d (cleared_of c l) last).drive;

@@ -11,31 +11,29 @@ use drive_hold::Holding;
 use fault::Latch;
 use input::Contacts;
 use slots::{CONTINUOUS, SLOTS, T4, T5, T6, T8};
-use ways::Way;
+use ways::Direction;
 
 // The drive after the rule, the move that ended, whether an operation counts, the latch, and the fault's age before this tick.
 #[derive(Clone, Copy)]
 pub struct Supervised {
     pub drive: Drive,
-    pub ended: Way,
+    pub ended: Option<Direction>,
     pub operation: bool,
     pub latch: Latch,
     pub before: u32,
 }
 
 // What a drive with a switching contact goes by, with the latch after reset.
-fn contact_of(s: &[u32; SLOTS], c: Contacts, tap: u32, l: Latch, last: Way) -> Contact
+#[tactic(auto, unfolding(crate::specs::Supervising::contact_of))]
+fn contact_of(s: &[u32; SLOTS], c: Contacts, tap: u32, l: Latch, last: Option<Direction>) -> Contact
     ensures { result ≡ contact_of s.now c tap l last }
 {
-    let f = l.fault;
-    let faulty = fault::is_fault(f);
-    let sliding = tap_sliding::is_sliding(s, tap);
     Contact {
         local: c.local_drive,
         closed: c.switching,
-        faulty: faulty,
-        sliding: sliding,
-        last: last,
+        faulty: fault::is_fault(l.fault),
+        sliding: tap_sliding::is_sliding(s, tap),
+        last,
         t4: s[T4],
         t5: s[T5],
         t6: s[T6],
@@ -44,59 +42,58 @@ fn contact_of(s: &[u32; SLOTS], c: Contacts, tap: u32, l: Latch, last: Way) -> C
 
 // What a drive without one goes by. The blocks are those of the latch after reset: a fault that arises on this tick is left
 // aside.
+#[tactic(auto, unfolding(crate::specs::Supervising::holding_of))]
 fn holding_of(s: &[u32; SLOTS], c: Contacts, x: Finding, l: Latch) -> Holding
     ensures { result ≡ holding_of s.now c x l }
 {
-    let level = x.level;
-    let side = busbar_level::side_of(level);
-    let band = busbar_level::is_in_band(level);
-    let f = l.fault;
-    let blocks = acting_judging::block(s, c, f, x);
     Holding {
         local: c.local_drive,
         automatic: c.automatic,
-        in_band: band,
-        side: side,
-        blocks: blocks,
+        in_band: busbar_level::is_in_band(x.level),
+        side: busbar_level::side_of(x.level),
+        blocks: acting_judging::block(s, c, l.fault, x),
         t4: s[T4],
     }
 }
 
 // Rule 7, by the kind of drive.
-fn followed(s: &[u32; SLOTS], c: Contacts, x: Finding, d: Drive, l: Latch, last: Way) -> Followed
+#[tactic(auto, using(common::proofs::Cases::cases), unfolding(crate::specs::Supervising::followed_of))]
+fn followed(
+    s: &[u32; SLOTS],
+    c: Contacts,
+    x: Finding,
+    d: Drive,
+    l: Latch,
+    last: Option<Direction>,
+) -> Followed
     ensures { result ≡ followed_of s.now c x d l last }
 {
     if s[CONTINUOUS] == 1 {
-        let h = holding_of(s, c, x, l);
-        drive_hold::hold(d, h)
+        drive_hold::hold(d, holding_of(s, c, x, l))
     } else {
-        let k = contact_of(s, c, x.tap, l, last);
-        drive_follow::follow(d, k)
+        drive_follow::follow(d, contact_of(s, c, x.tap, l, last))
     }
 }
 
 // Rules 2 and 7.
+#[tactic(auto, unfolding(crate::specs::Supervising::supervised_of, crate::specs::Supervising::cleared_of))]
 pub fn supervise(
     s: &[u32; SLOTS],
     c: Contacts,
     x: Finding,
     d: Drive,
     l: Latch,
-    last: Way,
+    last: Option<Direction>,
 ) -> Supervised
     ensures { result ≡ supervised_of s.now c x d l last }
 {
     let cleared = fault_latch::reset(l, c.reset);
     let moved = followed(s, c, x, d, cleared, last);
-    let new = moved.fault;
-    let latch = fault_latch::latched(cleared, new, s[T8]);
-    let drive = moved.drive;
-    let ended = moved.ended;
     Supervised {
-        drive: drive,
-        ended: ended,
+        drive: moved.drive,
+        ended: moved.ended,
         operation: moved.operation,
-        latch: latch,
+        latch: fault_latch::latched(cleared, moved.fault, s[T8]),
         before: cleared.age,
     }
 }

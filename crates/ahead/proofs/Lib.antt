@@ -1,3 +1,4 @@
+pub mod Apart
 pub mod Begun
 pub mod Found
 pub mod Laws

@@ -9,7 +9,7 @@ use lib.Dec.{eqb}
 use Rattle.slots.specs.Slots.{slot, in_service}
 use Rattle.ways.specs.declared.Direction.{Direction}
 use Rattle.ways.specs.declared.Direction.TheVariants.{Raise, Lower}
-use Rattle.ways.specs.declared.Way.TheVariants.{Neither, To}
+use Rattle.std.specs.Prelude.{None, Some}
 use Rattle.input.specs.declared.Input.{Input}
 use Rattle.record.specs.declared.Regulator.{Regulator}
 use Rattle.record_limits.specs.Limits.{within_of}
@@ -17,14 +17,13 @@ use Rattle.record_starting.specs.Starting.{fresh_of}
 use Rattle.claim.specs.Claim.{Command}
 use Rattle.claim.specs.Runs.{At}
 use Rattle.rules.specs.declared.Ticked.{Ticked}
-use Rattle.rules.specs.Ticks.{all_off, is_out, out_of, tick_of}
+use Rattle.rules.specs.Ticks.{outputs_in, all_off, is_out, out_of, tick_of}
 use Rattle.rules.specs.Lists.{seen_on, starts_on}
 use Rattle.rules.proofs.Shown.{contacts_at}
 use Rattle.rules.proofs.Steps.{Linked, out_is}
 use Rattle.history.proofs.Fields.{told_out}
 use Rattle.history.proofs.Steps.{begins_ran}
-use Rattle.ahead.specs.declared.Outlook.{Outlook}
-use Rattle.ahead.specs.Looking.{looked_on, begun_by, stands_at, as_given, is_horizon, ahead_of}
+use Rattle.ahead.specs.Looking.{Answer, looked_on, begun_by, stands_at, as_given, is_horizon, ahead_of}
 use Rattle.ahead.specs.Words.{after_ticks}
 use Rattle.ahead.proofs.Begun.{begins_to}
 use Rattle.ahead.proofs.Found.{last_of, looked}
@@ -41,15 +40,15 @@ module _ (i : Input) where
   out_after a n = ap (λ (s : List ℕ). eqb (slot s in_service) 0 || (contacts_at i).out) (settings_after i a n)
 
 -- what stands: no command, outputs 0, the fresh record
-abbrev pub at_rest : List ℕ → Outlook
-at_rest settings = record { refusal = 0; tick = 0; way = Neither; outputs = all_off; next = fresh_of settings }
+abbrev pub at_rest : List ℕ → Answer
+at_rest settings = record { refusal = 0; tick = 0; way = None; outputs = all_off; next = fresh_of settings }
 
 module _ (r : Regulator) (i : Input) (h : within_of r ≡ true) (o : is_out r (contacts_at i) ≡ true) where
   left_by_lem : (q : Regulator) → within_of q ≡ true → is_out q (contacts_at i) ≡ true → (a : At Regulator) → a.got ≡ q
-      → stands_at 0 Neither (looked_on a i) ≡ at_rest q.settings
+      → stands_at 0 None (looked_on a i) ≡ at_rest q.settings
   unfolding out_of
   left_by_lem q w u a e =
-      ap (λ (t : Ticked). record { refusal = 0; tick = 0; way = Neither; outputs = t.reply.outputs; next = t.next })
+      ap (λ (t : Ticked Regulator). record { refusal = 0; tick = 0; way = None; outputs = outputs_in t.reply; next = t.next })
       (ap (λ (p : Regulator). tick_of p i) e ∙ out_is q i w u)
 
   after_out : (n : ℕ) → is_horizon n ≡ true → last_of i (as_given 0 r) (starts_on r) n ≡ at_rest r.settings
@@ -71,6 +70,6 @@ module _ (r : Regulator) (i : Input) (h : within_of r ≡ true) (o : is_out r (c
       (λ f. f.is ∙ after_out n k)
       (looked i (starts_on r) n 0 (as_given 0 r))
     where
-      begun_out : (a : At Regulator) → Linked a.rest a.got → is_out a.got (contacts_at i) ≡ true → (d : Direction) → begun_by (seen_on a i) ≡ To d → ⊥
+      begun_out : (a : At Regulator) → Linked a.rest a.got → is_out a.got (contacts_at i) ≡ true → (d : Direction) → begun_by (seen_on a i) ≡ Some d → ⊥
       begun_out a l u Raise e = silent i a l u (inl (begins_to _ Raise e))
       begun_out a l u Lower e = silent i a l u (inr (begins_to _ Lower e))

@@ -14,11 +14,10 @@ use Rattle.common.proofs.Joined.{split, and_left}
 use Rattle.slots.specs.Slots.{slot, t1, t2, t3, is_continuous}
 use Rattle.ways.specs.declared.Direction.{Direction}
 use Rattle.ways.specs.declared.Direction.TheVariants.{Raise, Lower}
-use Rattle.ways.specs.declared.Way.{Way}
-use Rattle.ways.specs.declared.Way.TheVariants.{Neither, To}
+use Rattle.std.specs.Prelude.{Option, None, Some}
 use Rattle.ways.specs.Ways.{lowers, is_to, newer_of}
 use Rattle.busbar_level.specs.declared.Level.{Level}
-use Rattle.busbar_level.specs.declared.Level.TheVariants.{Missing, Low, InBand, High}
+use Rattle.busbar_level.specs.declared.Level.TheVariants.{Low, InBand, High}
 use Rattle.busbar_level.specs.Levels.{side_of, is_in_band}
 use Rattle.input.specs.declared.Input.{Input}
 use Rattle.command_automatic.specs.Automatic.{delay_of, kept_of, repeat_of}
@@ -26,7 +25,7 @@ use Rattle.sensing_observing.specs.Observing.{observed_of}
 use Rattle.sensing.specs.Sensing.{sensed_of}
 use Rattle.record.specs.declared.Regulator.{Regulator}
 use Rattle.record_limits.specs.Limits.{within_of}
-use Rattle.claim.specs.Claim.{Tick, All, Some, Begins, Command, Waiting, InForce, Kept, longest, wait_for}
+use Rattle.claim.specs.Claim.{Tick, All, Some as Somewhere, Begins, Command, Waiting, InForce, Kept, longest, wait_for}
 use Rattle.claim.specs.Runs.{At}
 use Rattle.claim.proofs.Lists.{all_front, all_join, all_back, all_map, some_none}
 use Rattle.rules.specs.declared.Ticked.{Ticked}
@@ -39,8 +38,7 @@ use Rattle.rules.proofs.Rows.{linked_step}
 use Rattle.rules.proofs.Waits.{wait_step, begun_moves, force_is, force_least, force_most}
 use Rattle.history.proofs.Fields.{live_repeat, not_out_lem}
 use Rattle.history.proofs.Steps.{command_of, none_decided}
-use Rattle.ahead.specs.declared.Outlook.{Outlook}
-use Rattle.ahead.specs.Looking.{begun_by, as_given, is_horizon, ahead_of}
+use Rattle.ahead.specs.Looking.{Answer, begun_by, as_given, is_horizon, ahead_of}
 use Rattle.ahead.specs.Words.{repeated_ticks, after_ticks, NoCommand, WaitsOn}
 use Rattle.ahead.proofs.Begun.{no_way, begins_to, way_of}
 use Rattle.ahead.proofs.Found.{Found, looked}
@@ -48,26 +46,26 @@ use Rattle.ahead.proofs.Laws.{linked_after, length_repeated, ticks_cut, look_is}
 
 -- ---- the delay in force stays from a waiting tick to the next
 
-kept_side : (d : Direction) (old : Way) → is_to d (repeat_of true false (To d) Neither old) ≡ is_to d old
+kept_side : (d : Direction) (old : Option Direction) → is_to d (repeat_of true false (Some d) None old) ≡ is_to d old
 unfolding repeat_of kept_of newer_of choose
-kept_side Raise Neither = refl
-kept_side Raise (To Raise) = refl
-kept_side Raise (To Lower) = refl
-kept_side Lower Neither = refl
-kept_side Lower (To Raise) = refl
-kept_side Lower (To Lower) = refl
+kept_side Raise None = refl
+kept_side Raise (Some Raise) = refl
+kept_side Raise (Some Lower) = refl
+kept_side Lower None = refl
+kept_side Lower (Some Raise) = refl
+kept_side Lower (Some Lower) = refl
 
-not_in_band_lem : (d : Direction) (l : Level) → side_of l ≡ To d → is_in_band l ≡ false
+not_in_band_lem : (d : Direction) (l : Option Level) → side_of l ≡ Some d → is_in_band l ≡ false
 unfolding side_of
-not_in_band_lem d Missing e = refl
-not_in_band_lem d Low e = refl
-not_in_band_lem d InBand e = absurd (no_way d e)
-not_in_band_lem d High e = refl
+not_in_band_lem d None e = refl
+not_in_band_lem d (Some Low) e = refl
+not_in_band_lem d (Some InBand) e = absurd (no_way d e)
+not_in_band_lem d (Some High) e = refl
 
-delay_by : (s : List ℕ) (d : Direction) (far : Bool) (a b : Way) → is_to d a ≡ is_to d b → delay_of s d far a ≡ delay_of s d far b
+delay_by : (s : List ℕ) (d : Direction) (far : Bool) (a b : Option Direction) → is_to d a ≡ is_to d b → delay_of s d far a ≡ delay_of s d far b
 unfolding delay_of
 delay_by s d far a b e =
-    ap (λ (x : Bool). choose (lowers (To d) && far) (slot s t3) (choose (x && not (is_continuous s)) (slot s t2) (slot s t1))) e
+    ap (λ (x : Bool). choose (lowers (Some d) && far) (slot s t3) (choose (x && not (is_continuous s)) (slot s t2) (slot s t1))) e
 
 module _ (d : Direction) (rest : Bool) (r : Regulator) (i : Input) (k : Linked rest r) (w : Waiting d (tick_at rest r i)) (n : Command (tick_at rest r i) → ⊥) where
   l : Live d r i
@@ -80,12 +78,12 @@ module _ (d : Direction) (rest : Bool) (r : Regulator) (i : Input) (k : Linked r
 
   same_repeat : is_to d (next_at r i).state.memory.repeat ≡ is_to d r.state.memory.repeat
   same_repeat =
-      ap (λ (t : Ticked). is_to d t.next.state.memory.repeat) l.is ∙ ap (is_to d) (live_repeat r i)
+      ap (λ (t : Ticked Regulator). is_to d t.next.state.memory.repeat) l.is ∙ ap (is_to d) (live_repeat r i)
       ∙ ap (λ (a : Bool). is_to d (repeat_of a (is_in_band (sensed_at r i).assessed.level) (side_of (sensed_at r i).assessed.level) (decided_at r i).command r.state.memory.repeat)) l.automatic
       ∙ ap (λ (b : Bool). is_to d (repeat_of true b (side_of (sensed_at r i).assessed.level) (decided_at r i).command r.state.memory.repeat))
       (not_in_band_lem d (sensed_at r i).assessed.level l.side)
-      ∙ ap (λ (v : Way). is_to d (repeat_of true false v (decided_at r i).command r.state.memory.repeat)) l.side
-      ∙ ap (λ (v : Way). is_to d (repeat_of true false (To d) v r.state.memory.repeat)) (none_decided rest r i k l.within in_service_lem n)
+      ∙ ap (λ (v : Option Direction). is_to d (repeat_of true false v (decided_at r i).command r.state.memory.repeat)) l.side
+      ∙ ap (λ (v : Option Direction). is_to d (repeat_of true false (Some d) v r.state.memory.repeat)) (none_decided rest r i k l.within in_service_lem n)
       ∙ kept_side d r.state.memory.repeat
 
   same_far : (sensed_at (next_at r i) i).assessed.far ≡ (sensed_at r i).assessed.far
@@ -123,12 +121,12 @@ module _ (d : Direction) (i : Input) where
       ((force_is d a.rest a.got i ∙ e, f.0), f.1)
 
   -- a waiting tick begins a command to its side, or none
-  to_its_side : (a : At Regulator) → Linked a.rest a.got → Waiting d (seen_on a i) → (e : Direction) → begun_by (seen_on a i) ≡ To e → Begins d (seen_on a i)
+  to_its_side : (a : At Regulator) → Linked a.rest a.got → Waiting d (seen_on a i) → (e : Direction) → begun_by (seen_on a i) ≡ Some e → Begins d (seen_on a i)
   to_its_side a k w e b =
       ⊎_elim (λ c. c.begins) (λ g. absurd (true≢false (sym g.rests ∙ begun_moves e a.rest a.got i k (begins_to _ e b))))
       (wait_step d a.rest a.got i k w)
 
-  no_begins : (l : List Tick) → NoCommand l → Some (Begins d) l → ⊥
+  no_begins : (l : List Tick) → NoCommand l → Somewhere (Begins d) l → ⊥
   no_begins l none s = some_none (Begins d) l (all_map l (λ t c b. c (command_of t d b)) none) s
 
 -- ---- the answer
@@ -172,15 +170,15 @@ module _ (d : Direction) (r : Regulator) (i : Input) (n : ℕ) (w : WaitsOn d (s
       (promise.latest d [] (repeated_ticks A i k) (seen_on (after_ticks A i k) i) _ (cut_at k (omega arith))
       (all_waiting d i A k (fewer d i A k n (omega arith) w) free) (w k (omega arith) free) (omega arith))
 
-  abbrev AtMost : Outlook → Type 0
-  AtMost o = (o.way ≡ To d) × (1 ≤ o.tick) × (o.tick ≤ longest r.settings)
+  abbrev AtMost : Answer → Type 0
+  AtMost o = (o.way ≡ Some d) × (1 ≤ o.tick) × (o.tick ≤ longest r.settings)
 
-  found_way : (o : Outlook) (f : Found i A n 0 o) → o.way ≡ To d
+  found_way : (o : Answer) (f : Found i A n 0 o) → o.way ≡ Some d
   found_way o f =
       let p : n ≡ f.before + suc f.later = f.whole in
       let a = after_ticks A i f.before in
       let b = to_its_side d i a (linked f.before) (w f.before (omega arith) f.none) f.direction f.begins in
-      ap (λ (q : Outlook). q.way) f.is ∙ sym f.begins ∙ way_of _ (never_both_lem a.got i) d b
+      ap (λ (q : Answer). q.way) f.is ∙ sym f.begins ∙ way_of _ (never_both_lem a.got i) d b
 
   longest_some : 1 ≤ longest r.settings
   longest_some =
@@ -188,9 +186,9 @@ module _ (d : Direction) (r : Regulator) (i : Input) (n : ℕ) (w : WaitsOn d (s
       let q : delay_in d r i ≤ longest r.settings = force_most d r i in
       omega arith
 
-  at_most_found : longest r.settings ≤ n → (o : Outlook) → Found i A n 0 o → AtMost o
+  at_most_found : longest r.settings ≤ n → (o : Answer) → Found i A n 0 o → AtMost o
   at_most_found p o f =
-      let t : o.tick ≡ 0 + f.before + 1 = ap (λ (q : Outlook). q.tick) f.is in
+      let t : o.tick ≡ 0 + f.before + 1 = ap (λ (q : Answer). q.tick) f.is in
       let z : n ≡ f.before + suc f.later = f.whole in (
         found_way o f,
         omega arith,
@@ -217,12 +215,12 @@ module _ (d : Direction) (r : Regulator) (i : Input) (n : ℕ) (w : WaitsOn d (s
         promise.exactly d (delay_in d r i) [] (repeated_ticks A i k) (seen_on a i) _ (cut_at k p) zero-wait
         (all_waiting d i A k (fewer d i A k n (omega arith) w) none) (w k p none) f.0 (force_is d a.rest a.got i ∙ f.1)
 
-    abbrev Exactly : Outlook → Type 0
-    Exactly o = (o.way ≡ To d) × (o.tick ≡ delay_in d r i)
+    abbrev Exactly : Answer → Type 0
+    Exactly o = (o.way ≡ Some d) × (o.tick ≡ delay_in d r i)
 
-    exactly_found : (o : Outlook) → Found i A n 0 o → Exactly o
+    exactly_found : (o : Answer) → Found i A n 0 o → Exactly o
     exactly_found o f =
-        let t : o.tick ≡ 0 + f.before + 1 = ap (λ (q : Outlook). q.tick) f.is in
+        let t : o.tick ≡ 0 + f.before + 1 = ap (λ (q : Answer). q.tick) f.is in
         let z : n ≡ f.before + suc f.later = f.whole in
         let m : length (repeated_ticks A i f.before) ≡ f.before = length_repeated i A f.before in
         let b =

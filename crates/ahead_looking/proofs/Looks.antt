@@ -1,168 +1,198 @@
--- How a look goes on: what is left of it is the look of what is left of its ticks.
+-- A look, tick after tick: its loop, and that it is the paper's.
 -- Assumes nothing.
-use Prim.Native.Nat.{ℕ, suc, ◌+◌, ◌-◌, ◌≤◌, ◌<◌}
+use Prim.Native.Nat.{ℕ, zero, suc, ◌+◌, ◌-◌, ◌≤◌, ◌<◌}
 use native.Mathlib.Omega.{arith}
-use mathlib.Core.Path.{◌≡◌, refl, sym, ap, ◌∙◌, subst}
-use mathlib.Core.Bool.{Bool, true, false, not, ◌||◌, true≢false, false≢true}
+use mathlib.Core.Path.{◌≡◌, refl, sym, ap, ◌∙◌}
+use mathlib.Core.Bool.{Bool, true, false}
 use mathlib.Core.List.{List}
-use mathlib.Core.Logic.{⊎_elim}
-use borrow.Author.Tests.{eq-eqb, ltb-true, ltb-false, le-leb, lt-leb, not-true, not-false}
-use lib.Dec.{eqb, leb, ltb}
-use lib.ListN.{get_or}
+use borrow.Author.Tests.{eq-eqb}
+use Rattle.std.specs.Prelude.{None, Some, Result, Ok, Err, Option}
 use Rattle.common.proofs.Cases.{yes, no}
-use Rattle.common.proofs.Joined.{or_is, or_left, or_right, and_false}
-use Rattle.ways.specs.declared.Direction.TheVariants.{Raise, Lower}
-use Rattle.ways.specs.declared.Way.{Way}
-use Rattle.ways.specs.declared.Way.TheVariants.{Neither, To}
-use Rattle.ways.specs.Ways.{raises, lowers}
+use Rattle.ways.specs.declared.Direction.{Direction}
 use Rattle.drive_follow.specs.Follow.{rests_of}
 use Rattle.input.specs.declared.Input.{Input}
 use Rattle.record.specs.declared.Regulator.{Regulator}
 use Rattle.record.specs.declared.State.{State}
 use Rattle.record.specs.Whole.{regulator_of}
 use Rattle.record_limits.specs.Limits.{within_of}
+use Rattle.claim.specs.Claim.{rest_after}
 use Rattle.claim.specs.Runs.{At}
-use Rattle.rules.specs.declared.Stepped.{Stepped}
-use Rattle.rules.specs.Ticks.{all_off, tick_of, stepped_of}
+use Rattle.rules.specs.Ticks.{all_off, tick_of}
 use Rattle.rules.specs.Lists.{seen_on, starts_on}
 use Rattle.rules.proofs.Steps.{accepted_is, settings_kept, within_kept}
 use Rattle.ahead.specs.declared.Outlook.{Outlook}
+use Rattle.ahead.specs.declared.Refusal.{Refusal}
+use Rattle.ahead.specs.declared.Refusal.TheVariants.{Record, Horizon}
+use Rattle.ahead.specs.Looking.{Answer, way_begun, begun_by, stands_at, found_or, first_after, looked_on, looked_from, is_horizon, outlook_from, ahead_of, told_by, answer_of}
 use Rattle.ahead_looking.specs.declared.Glance.{Glance}
-use Rattle.ahead_looking.specs.Glances.{glance_of}
-use Rattle.ahead.specs.Looking.{way_begun, begun_by, stands_at, found_or, first_after, looked_on, looked_from, longest_horizon, is_horizon, as_given, outlook_from, ahead_of}
+use Rattle.ahead_looking.specs.Glances.{glance_of, passed_by, begun_or, outlook_on, outlook_by}
 
--- one tick, as its function has it
-pub glance_made : (rest : Bool) (r : Regulator) (i : Input) {t : Stepped} {w : Way} → t ≡ stepped_of (tick_of r i) → w ≡ way_begun rest t.reply.outputs
-    → ◌≡◌ {A = Glance} (record { way = w; rests = eqb (get_or t.reply.outputs 24 0) 0; outputs = t.reply.outputs; state = t.state }) (glance_of rest (tick_of r i))
-glance_made rest r i e w = rw (w, e)
+-- where no command has come yet
+abbrev pub waiting : {N : Type 0} → List ℕ → N → Outlook N
+waiting outputs n = record { begun = None; outputs = outputs; next = n }
+
+-- ---- the loop
+
+-- before its tick `at`
+pub record Going {N : Type 0} (tick : N → Glance N) (whole : Outlook N) (horizon : ℕ) (next : N) (rest : Bool) (outputs : List ℕ) (at : ℕ) : Type 0 where
+  pub counted : 1 ≤ at
+  pub inside : at ≤ horizon + 1
+  pub is : whole ≡ outlook_on tick (at - 1) rest (waiting outputs next) (horizon + 1 - at)
+
+module _ {N : Type 0} {tick : N → Glance N} {whole : Outlook N} {horizon : ℕ} {next : N} {rest : Bool} {outputs : List ℕ} {at : ℕ}
+    (k : Going tick whole horizon next rest outputs at) where
+  -- one tick more
+  abbrev more_is : ℕ → ℕ → Option Direction → Outlook N
+  more_is n left w =
+      begun_or (n + 1) (tick next) w (outlook_on tick (n + 1) (rest_after (tick next).outputs) (passed_by (tick next)) left)
+
+  one_more : (n left : ℕ) → left ≡ suc (horizon - at) → outlook_on tick n rest (waiting outputs next) left ≡ more_is n (horizon - at) (way_begun rest (tick next).outputs)
+  unfolding outlook_on
+  one_more n left e = rw e refl
+
+  on : at ≤ horizon → whole ≡ more_is (at - 1) (horizon - at) (way_begun rest (tick next).outputs)
+  on h = k.is ∙ one_more (at - 1) (horizon + 1 - at) (omega arith)
+
+  none_left : (left : ℕ) → left ≡ 0 → outlook_on tick (at - 1) rest (waiting outputs next) left ≡ waiting outputs next
+  unfolding outlook_on
+  none_left left e = rw e refl
+
+  -- at the horizon
+  pub ends : horizon < at → waiting outputs next ≡ whole
+  ends h = sym (k.is ∙ none_left (horizon + 1 - at) (omega arith))
+
+  module _ (h : at ≤ horizon) {g : Glance N} (e : g ≡ tick next) {w : Option Direction} (u : w ≡ way_begun rest g.outputs) where
+    on_way : whole ≡ begun_or (at - 1 + 1) g w (outlook_on tick (at - 1 + 1) (rest_after g.outputs) (passed_by g) (horizon - at))
+    on_way = rw (u, e) (on h)
+
+    passed : (v : Option Direction) (m : ℕ) (later : Outlook N) → ((d : Direction) → v ≡ Some d → ⊥) → begun_or m g v later ≡ later
+    unfolding begun_or
+    passed None m later z = refl
+    passed (Some d) m later z = absurd (z d refl)
+
+    pub going_on : ((d : Direction) → w ≡ Some d → ⊥) → {b : Bool} → b ≡ rest_after g.outputs → Going tick whole horizon g.next b g.outputs (at + 1)
+    going_on z y =
+        let c = k.counted in
+        let p : at - 1 + 1 ≡ at + 1 - 1 = omega arith in
+        let q : horizon - at ≡ horizon + 1 - (at + 1) = omega arith in
+        record {
+          counted = omega arith;
+          inside = omega arith;
+          is =
+              on_way ∙ passed w (at - 1 + 1) _ z ∙ (λ j. outlook_on tick (p j) (rest_after g.outputs) (passed_by g) (q j))
+              ∙ ap (λ (x : Bool). outlook_on tick (at + 1 - 1) x (passed_by g) (horizon + 1 - (at + 1))) (sym y);
+        }
+
+    found : (v : Option Direction) (d : Direction) (m : ℕ) (later : Outlook N) → v ≡ Some d → begun_or m g v later ≡ record { begun = Some (record { tick = m; direction = d }); outputs = g.outputs; next = g.next }
+    unfolding begun_or
+    found v d m later z = rw z refl
+
+    pub finds : {d : Direction} → w ≡ Some d → ◌≡◌ {A = Outlook N} (record { begun = Some (record { tick = at; direction = d }); outputs = g.outputs; next = g.next }) whole
+    finds {d} z =
+        let c = k.counted in
+        let p : at - 1 + 1 ≡ at = omega arith in
+        sym (on_way ∙ found w d (at - 1 + 1) _ z ∙ ap (λ (m : ℕ). record { begun = Some (record { tick = m; direction = d }); outputs = g.outputs; next = g.next }) p)
+
+-- ---- a look over one form of a record is that over another
+
+module _ {M N : Type 0} (f : M → N) where
+  abbrev pub mapped : Outlook M → Outlook N
+  mapped o = record { begun = o.begun; outputs = o.outputs; next = f o.next }
+
+  abbrev pub glance_mapped : Glance M → Glance N
+  glance_mapped g = record { outputs = g.outputs; next = f g.next }
+
+  mapped_or : (k : ℕ) (g : Glance M) (w : Option Direction) (x : Outlook N) (y : Outlook M) → x ≡ mapped y → begun_or k (glance_mapped g) w x ≡ mapped (begun_or k g w y)
+  unfolding begun_or
+  mapped_or k g None x y e = e
+  mapped_or k g (Some d) x y e = refl
+
+  module _ (t : M → Glance M) (u : N → Glance N) (same : (m : M) → u (f m) ≡ glance_mapped (t m)) where
+    pub maps : (n k : ℕ) (rest : Bool) (last : Outlook M) → outlook_on u k rest (mapped last) n ≡ mapped (outlook_on t k rest last n)
+    unfolding outlook_on
+    maps zero k rest last = refl
+    maps (suc n) k rest last =
+        let g = t last.next in
+        ap (λ (y : Glance N). begun_or (k + 1) y (way_begun rest y.outputs) (outlook_on u (k + 1) (rest_after y.outputs) (passed_by y) n)) (same last.next)
+        ∙ mapped_or (k + 1) g (way_begun rest g.outputs) _ _ (maps n (k + 1) (rest_after g.outputs) (passed_by g))
+
+-- ---- the look over the states of a record is the paper's
 
 abbrev pub at : Bool → Regulator → At Regulator
 at rest r = record { rest = rest; got = r }
 
 -- where no command has come yet
-abbrev pub standing : List ℕ → Regulator → Outlook
-standing outputs r = record { refusal = 0; tick = 0; way = Neither; outputs = outputs; next = r }
+abbrev pub standing : List ℕ → Regulator → Answer
+standing outputs r = record { refusal = 0; tick = 0; way = None; outputs = outputs; next = r }
 
-pub record Going (i : Input) (whole : Outlook) (horizon : ℕ) (settings : List ℕ) (state : State) (rest : Bool) (outputs : List ℕ) (ticks : ℕ) : Type 0 where
-  pub within : within_of (regulator_of settings state) ≡ true
-  pub is : whole ≡ first_after ticks (standing outputs (regulator_of settings state)) (looked_from (at rest (regulator_of settings state)) i (horizon - ticks))
+module _ (s : List ℕ) (i : Input) where
+  abbrev pub record_tick : State → Glance State
+  record_tick m = glance_of (tick_of (regulator_of s m) i)
 
-pub going_start : (i : Input) (horizon : ℕ) (r : Regulator) (rest : Bool) → within_of r ≡ true → rest ≡ rests_of r.state.drive
-    → Going i (outlook_from (starts_on r) i horizon) horizon r.settings r.state rest all_off 0
-going_start i horizon r rest h e =
-    let z : horizon ≡ horizon - 0 = omega arith in
-    record {
-      within = h;
-      is = ap (λ (b : Bool). outlook_from (at b r) i horizon) (sym e) ∙ ap (λ (n : ℕ). first_after 0 (standing all_off r) (looked_from (at rest r) i n)) z;
-    }
+  abbrev pub told : Outlook State → Answer
+  told o = told_by (mapped (regulator_of s) o)
 
-module _ (i : Input) (whole : Outlook) (horizon : ℕ) (s : List ℕ) (m : State) (rest : Bool) (outputs : List ℕ) (ticks : ℕ)
-    (k : Going i whole horizon s m rest outputs ticks) where
-  abbrev r : Regulator
-  r = regulator_of s m
+  module _ (m : State) (rest : Bool) (h : within_of (regulator_of s m) ≡ true) where
+    abbrev r : Regulator
+    r = regulator_of s m
 
-  -- at the horizon
-  none_left : (n : ℕ) → n ≡ 0 → first_after ticks (standing outputs r) (looked_from (at rest r) i n) ≡ standing outputs r
-  unfolding first_after
-  none_left n e = rw e refl
+    abbrev a : At Regulator
+    a = at rest r
 
-  pub going_end : horizon ≤ ticks → standing outputs r ≡ whole
-  going_end h = sym (k.is ∙ none_left (horizon - ticks) (omega arith))
+    abbrev g : Glance State
+    g = record_tick m
 
-  -- one tick more
-  abbrev a : At Regulator
-  a = at rest r
+    begun_is : begun_by (seen_on a i) ≡ way_begun rest g.outputs
+    unfolding begun_by
+    begun_is = sym (yes _ _ _ _ (eq-eqb _ _ (accepted_is r i ∙ sym (yes _ _ _ _ h refl))) refl)
 
-  begun_is : begun_by (seen_on a i) ≡ way_begun rest (tick_of r i).reply.outputs
-  unfolding begun_by
-  begun_is = sym (yes _ _ _ _ (eq-eqb _ _ (accepted_is r i ∙ sym (yes _ _ _ _ k.within refl))) refl)
+    next_is : (tick_of r i).next ≡ regulator_of s g.next
+    next_is = ap (λ (z : List ℕ). regulator_of z (tick_of r i).next.state) (settings_kept r i)
 
-  next_is : (tick_of r i).next ≡ regulator_of s (tick_of r i).next.state
-  next_is = ap (λ (z : List ℕ). regulator_of z (tick_of r i).next.state) (settings_kept r i)
+    next_within : within_of (regulator_of s g.next) ≡ true
+    next_within = ap within_of (sym next_is) ∙ within_kept r i ∙ h
 
-  abbrev g : Glance
-  g = glance_of rest (tick_of r i)
+    more : (k n : ℕ) (last : Answer) → first_after k last (looked_from a i (suc n))
+        ≡ found_or (k + 1) (record { tick = seen_on a i; next = regulator_of s g.next }) (way_begun rest g.outputs)
+        (first_after (k + 1) (standing g.outputs (regulator_of s g.next)) (looked_from (at (rest_after g.outputs) (regulator_of s g.next)) i n))
+    unfolding first_after
+    more k n last =
+        ap (λ (w : Option Direction). found_or (k + 1) (looked_on a i) w (first_after (k + 1) (stands_at 0 None (looked_on a i)) (looked_from (at (rest_after g.outputs) (tick_of r i).next) i n))) begun_is
+        ∙ ap (λ (q : Regulator). found_or (k + 1) (record { tick = seen_on a i; next = q }) (way_begun rest g.outputs) (first_after (k + 1) (standing g.outputs q) (looked_from (at (rest_after g.outputs) q) i n))) next_is
 
-  abbrev next : Regulator
-  next = regulator_of s g.state
+    told_or : (k : ℕ) (w : Option Direction) (x : Outlook State) (y : Answer) → told x ≡ y → told (begun_or k g w x) ≡ found_or k (record { tick = seen_on a i; next = regulator_of s g.next }) w y
+    unfolding begun_or found_or
+    told_or k None x y e = e
+    told_or k (Some d) x y e = refl
 
-  more : (n : ℕ) → n ≡ suc (horizon - (ticks + 1))
-      → first_after ticks (standing outputs r) (looked_from (at rest r) i n)
-      ≡ found_or (ticks + 1) (record { tick = seen_on a i; next = next }) g.way (first_after (ticks + 1) (standing g.outputs next) (looked_from (at g.rests next) i (horizon - (ticks + 1))))
-  unfolding first_after
-  more n e =
-      rw e
-      (ap (λ (w : Way). found_or (ticks + 1) (looked_on a i) w (first_after (ticks + 1) (stands_at 0 Neither (looked_on a i)) (looked_from (at g.rests (tick_of r i).next) i (horizon - (ticks + 1))))) begun_is
-      ∙ ap (λ (q : Regulator). found_or (ticks + 1) (record { tick = seen_on a i; next = q }) g.way (first_after (ticks + 1) (standing g.outputs q) (looked_from (at g.rests q) i (horizon - (ticks + 1))))) next_is)
+  looks : (n k : ℕ) (m : State) (rest : Bool) (outputs : List ℕ) → within_of (regulator_of s m) ≡ true
+      → told (outlook_on record_tick k rest (waiting outputs m) n) ≡ first_after k (standing outputs (regulator_of s m)) (looked_from (at rest (regulator_of s m)) i n)
+  unfolding outlook_on first_after
+  looks zero k m rest outputs h = refl
+  looks (suc n) k m rest outputs h =
+      let y = record_tick m in
+      told_or m rest h (k + 1) (way_begun rest y.outputs) _ _ (looks n (k + 1) y.next (rest_after y.outputs) y.outputs (next_within m rest h))
+      ∙ sym (more m rest h k n (standing outputs (regulator_of s m)))
 
-  module _ (h : ticks < horizon) where
-    on : whole ≡ found_or (ticks + 1) (record { tick = seen_on a i; next = next }) g.way (first_after (ticks + 1) (standing g.outputs next) (looked_from (at g.rests next) i (horizon - (ticks + 1))))
-    on = k.is ∙ more (horizon - ticks) (omega arith)
+pub looked_over : (r : Regulator) (i : Input) (n : ℕ) → within_of r ≡ true → (rest : Bool) → rest ≡ rests_of r.state.drive
+    → told r.settings i (outlook_by (record_tick r.settings i) rest r.state n) ≡ outlook_from (starts_on r) i n
+looked_over r i n h rest e = looks r.settings i n 0 r.state rest all_off h ∙ ap (λ (b : Bool). outlook_from (at b r) i n) e
 
-    passed : (w : Way) (x y : Outlook) → (raises w || lowers w) ≡ false → found_or (ticks + 1) (record { tick = seen_on a i; next = next }) w x ≡ x
-    unfolding found_or
-    passed Neither x y e = refl
-    passed (To Raise) x y e = absurd (true≢false e)
-    passed (To Lower) x y e = absurd (true≢false e)
+-- ---- the answer: a refusal or the look
 
-    pub going_on : (raises g.way || lowers g.way) ≡ false → Going i whole horizon s g.state g.rests g.outputs (ticks + 1)
-    going_on e =
-        record {
-          within = ap within_of (sym next_is) ∙ within_kept r i ∙ k.within;
-          is = on ∙ passed g.way _ whole e;
-        }
-
-    found : (w : Way) (x : Outlook) → (raises w || lowers w) ≡ true → found_or (ticks + 1) (record { tick = seen_on a i; next = next }) w x ≡ record { refusal = 0; tick = ticks + 1; way = w; outputs = g.outputs; next = next }
-    unfolding found_or
-    found Neither x e = absurd (false≢true e)
-    found (To d) x e = refl
-
-    pub going_found : (raises g.way || lowers g.way) ≡ true → ◌≡◌ {A = Outlook} (record { refusal = 0; tick = ticks + 1; way = g.way; outputs = g.outputs; next = next }) whole
-    going_found e = sym (on ∙ found g.way _ e)
-
--- as the function has them: what it saw of the tick, and whether that is a command
-module _ {i : Input} {whole : Outlook} {horizon : ℕ} {s : List ℕ} {m : State} {rest : Bool} {outputs : List ℕ} {ticks : ℕ}
-    (k : Going i whole horizon s m rest outputs ticks) (h : ticks < horizon) {g : Glance} (e : g ≡ glance_of rest (tick_of (regulator_of s m) i))
-    {a b : Bool} (p : a ≡ raises g.way) (q : b ≡ lowers g.way) where
-  pub looks_on : (a || b) ≡ false → Going i whole horizon s g.state g.rests g.outputs (ticks + 1)
-  looks_on t =
-      subst (λ (x : Glance). Going i whole horizon s x.state x.rests x.outputs (ticks + 1)) (sym e)
-      (going_on i whole horizon s m rest outputs ticks k h (ap (λ (x : Glance). raises x.way || lowers x.way) (sym e) ∙ sym (λ j. p j || q j) ∙ t))
-
-  pub finds : (a || b) ≡ true → ◌≡◌ {A = Outlook} (record { refusal = 0; tick = ticks + 1; way = g.way; outputs = g.outputs; next = regulator_of s g.state }) whole
-  finds t =
-      subst (λ (x : Glance). ◌≡◌ {A = Outlook} (record { refusal = 0; tick = ticks + 1; way = x.way; outputs = x.outputs; next = regulator_of s x.state }) whole) (sym e)
-      (going_found i whole horizon s m rest outputs ticks k h (ap (λ (x : Glance). raises x.way || lowers x.way) (sym e) ∙ sym (λ j. p j || q j) ∙ t))
-
-pub ends : {i : Input} {whole : Outlook} {horizon : ℕ} {s : List ℕ} {m : State} {rest : Bool} {outputs : List ℕ} {ticks : ℕ}
-    → Going i whole horizon s m rest outputs ticks → horizon ≤ ticks → standing outputs (regulator_of s m) ≡ whole
-ends {i} {whole} {horizon} {s} {m} {rest} {outputs} {ticks} k h = going_end i whole horizon s m rest outputs ticks k h
-
--- a horizon, by the tests as the function has them
-pub beyond : (k : ℕ) → (ltb k 1 || ltb longest_horizon k) ≡ true → is_horizon k ≡ false
-beyond k e =
-    ⊎_elim (λ p. let z = ltb-true k 1 p in rw (lt-leb 1 k (omega arith)))
-    (λ p. let z = ltb-true longest_horizon k p in rw (lt-leb k longest_horizon (omega arith)) (and_false (leb 1 k))) (or_is _ _ e)
-
-pub inside : (k : ℕ) → (ltb k 1 || ltb longest_horizon k) ≡ false → is_horizon k ≡ true
-inside k e =
-    let p = ltb-false k 1 (or_left _ _ e) in
-    let q = ltb-false longest_horizon k (or_right (ltb k 1) _ e) in
-    rw (le-leb 1 k (omega arith), le-leb k longest_horizon (omega arith))
-
-pub accepted_record : (r : Regulator) {b : Bool} → b ≡ within_of r → not b ≡ false → within_of r ≡ true
-accepted_record r w p = sym w ∙ not-false _ p
-
--- the answer: 4, 6 or the look
-module _ (r : Regulator) (i : Input) (n : ℕ) {b : Bool} (w : b ≡ within_of r) {a : Outlook} where
-  pub ahead_4 : not b ≡ true → a ≡ as_given 4 r → a ≡ ahead_of r i n
+module _ (r : Regulator) (i : Input) (n : ℕ) {b : Bool} (w : b ≡ within_of r) {o : Result (Outlook Regulator) Refusal} where
+  pub ahead_4 : b ≡ false → o ≡ Err Record → answer_of r o ≡ ahead_of r i n
   unfolding ahead_of
-  ahead_4 p q = no _ _ _ _ (sym w ∙ not-true _ p) q
+  ahead_4 p q = ap (answer_of r) q ∙ no _ _ _ _ (sym w ∙ p) refl
 
-  pub ahead_6 : not b ≡ false → (ltb n 1 || ltb longest_horizon n) ≡ true → a ≡ as_given 6 r → a ≡ ahead_of r i n
-  unfolding ahead_of
-  ahead_6 p h q = yes _ _ _ _ (accepted_record r w p) (no _ _ _ _ (beyond n h) q)
+  module _ {c : Bool} (v : c ≡ is_horizon n) where
+    pub ahead_6 : b ≡ true → c ≡ false → o ≡ Err Horizon → answer_of r o ≡ ahead_of r i n
+    unfolding ahead_of
+    ahead_6 p h q = ap (answer_of r) q ∙ yes _ _ _ _ (sym w ∙ p) (no _ _ _ _ (sym v ∙ h) refl)
 
-  pub ahead_looks : not b ≡ false → (ltb n 1 || ltb longest_horizon n) ≡ false → a ≡ outlook_from (starts_on r) i n → a ≡ ahead_of r i n
-  unfolding ahead_of
-  ahead_looks p h q = yes _ _ _ _ (accepted_record r w p) (yes _ _ _ _ (inside n h) q)
+    pub ahead_looks : b ≡ true → c ≡ true → {rest : Bool} → rest ≡ rests_of r.state.drive → {x : Outlook State} → x ≡ outlook_by (record_tick r.settings i) rest r.state n
+        → o ≡ Ok (mapped (regulator_of r.settings) x) → answer_of r o ≡ ahead_of r i n
+    unfolding ahead_of
+    ahead_looks p h {rest} e {x} q z =
+        let within : within_of r ≡ true = sym w ∙ p in
+        ap (answer_of r) z ∙ ap (told r.settings i) q ∙ looked_over r i n within rest e ∙ yes _ _ _ _ within (yes _ _ _ _ (sym v ∙ h) refl)

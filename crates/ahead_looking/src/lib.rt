@@ -1,134 +1,146 @@
 // The look ahead (02, ticket 8): the tick repeated, up to the first command.
 #![tactic(auto)]
 
-ghost use Rattle.std.specs.Prelude.{◌≡◌, true};
+ghost use Rattle.std.specs.Prelude.{◌≡◌};
 ghost use Rattle.common.specs.Choice.{choose};
 ghost use Rattle.record.specs.Whole.{regulator_of};
 ghost use Rattle.record_limits.specs.Limits.{within_of};
 ghost use Rattle.rules.specs.Ticks.{tick_of};
-ghost use Rattle.rules.specs.Lists.{starts_on};
-ghost use Rattle.ahead.specs.Looking.{way_begun, as_given, outlook_from, is_horizon, ahead_of};
-ghost use Rattle.ahead_looking.specs.Glances.{glance_of};
+ghost use Rattle.ahead.specs.Looking.{way_begun, answer_of, is_horizon, ahead_of};
+ghost use Rattle.ahead_looking.specs.declared.Glance.{Glance};
+ghost use Rattle.ahead_looking.specs.Glances.{glance_of, outlook_by};
 
-use ahead::{LONGEST_HORIZON, Outlook};
+use ahead::{FirstCommand, LONGEST_HORIZON, Outlook, Refusal};
 use input::Input;
 use record::{Regulator, State};
 use showing::FIELDS;
 use slots::SLOTS;
-use ways::{Direction, Way};
+use ways::Direction;
 
-// One tick of the look: the command that it begins, whether the drive rests after it, its outputs and its state.
+const RAISE: usize = 0;
+
+const LOWER: usize = 1;
+
+const ASKED_OR_MOVING: usize = 24;
+
+// One tick of the look: its outputs, and what it leaves.
 #[derive(Clone, Copy)]
-pub struct Glance {
-    pub way: Way,
-    pub rests: bool,
+pub struct Glance<N> {
     pub outputs: [u32; FIELDS],
-    pub state: State,
+    pub next: N,
+}
+
+// The tick that is repeated, on what the last one left.
+pub trait Repeated<N> {
+    ghost tick: { Self → N → Glance N };
+
+    fn tick(&self, before: N) -> Glance<N>
+        ensures { result ≡ tick self.now before };
 }
 
 // The command that an accepted tick begins, by whether the drive was at rest as it started.
-pub fn begun(rest: bool, outputs: &[u32; FIELDS]) -> Way
+#[tactic(auto, using(common::proofs::Cases::cases), unfolding(ahead::specs::Looking::way_begun))]
+pub fn begun(rest: bool, outputs: &[u32; FIELDS]) -> Option<Direction>
     ensures { result ≡ way_begun rest outputs.now }
 {
     if rest {
-        if outputs[0] == 1 {
-            return Way::To(Direction::Raise);
+        if outputs[RAISE] == 1 {
+            return Some(Direction::Raise);
         }
-        if outputs[1] == 1 {
-            return Way::To(Direction::Lower);
+        if outputs[LOWER] == 1 {
+            return Some(Direction::Lower);
         }
     }
-    Way::Neither
+    None
 }
 
-fn glance_at(s: &[u32; SLOTS], m: State, rest: bool, i: Input) -> Glance
-    ensures { result ≡ glance_of rest (tick_of (regulator_of s.now m) i) }
+// The look itself, from `first`, whose ticks are accepted: it ends at the first command. `at_rest`: as the drive is before it.
+pub fn look<N: Copy, T: Repeated<N>>(
+    repeated: &T,
+    first: N,
+    at_rest: bool,
+    horizon: u32,
+) -> Outlook<N>
+    ensures { result ≡ outlook_by (T.tick repeated.now) at_rest first horizon }
 {
-    let stepped = regulator::step(s, m, i);
-    let reply = stepped.reply;
-    let outputs = reply.outputs;
-    let state = stepped.state;
-    let way = begun(rest, &outputs);
-    Glance {
-        way: way,
-        rests: outputs[24] == 0,
-        outputs: outputs,
-        state: state,
-    }
-}
-
-// The look itself, over a record that is accepted: it ends at the first command.
-fn look(r: Regulator, i: Input, horizon: u32) -> Outlook
-    requires { within_of r ≡ true }
-    ensures { result ≡ outlook_from (starts_on r) i horizon }
-{
-    let settings = r.settings;
-    let mut state = r.state;
-    let drive = state.drive;
-    let mut rest = drive_follow::rests(drive);
+    let mut next = first;
+    let mut rest = at_rest;
     let mut outputs = [0u32; FIELDS];
-    let mut ticks: u32 = 0;
-    while ticks < horizon {
-        let g = glance_at(&settings, state, rest, i);
-        let after = g.state;
-        let shown = g.outputs;
-        let way = g.way;
-        state = after;
-        outputs = shown;
-        rest = g.rests;
-        ticks += 1;
-        if ways::to_raise(way) | ways::to_lower(way) {
+    for tick in 1..=horizon {
+        let seen = repeated.tick(next);
+        next = seen.next;
+        outputs = seen.outputs;
+        if let Some(direction) = begun(rest, &outputs) {
             return Outlook {
-                refusal: 0,
-                tick: ticks,
-                way: way,
-                outputs: outputs,
-                next: Regulator {
-                    settings: settings,
-                    state: state,
-                },
+                begun: Some(FirstCommand { tick, direction }),
+                outputs,
+                next,
             };
         }
+        rest = outputs[ASKED_OR_MOVING] == 0;
     }
     Outlook {
-        refusal: 0,
-        tick: 0,
-        way: Way::Neither,
-        outputs: outputs,
-        next: Regulator {
-            settings: settings,
-            state: state,
-        },
+        begun: None,
+        outputs,
+        next,
     }
 }
 
-// A refusal: tick 0, no way, outputs 0 and the record as given.
-fn as_given(refusal: u32, r: Regulator) -> Outlook
-    ensures { result ≡ as_given refusal r }
+// Whether a look may go so many ticks.
+pub fn is_horizon(horizon: u32) -> bool
+    ensures { result ≡ is_horizon horizon }
 {
-    Outlook {
-        refusal: refusal,
-        tick: 0,
-        way: Way::Neither,
-        outputs: [0u32; FIELDS],
-        next: r,
+    (1..=LONGEST_HORIZON).contains(&horizon)
+}
+
+// The tick of a record.
+#[derive(Clone, Copy)]
+struct OnRecord {
+    settings: [u32; SLOTS],
+    input: Input,
+}
+
+impl Repeated<State> for OnRecord {
+    ghost tick = { λ t m. glance_of (tick_of (regulator_of t.settings m) t.input) };
+
+    fn tick(&self, before: State) -> Glance<State> {
+        let stepped = regulator::step(&self.settings, before, self.input);
+        let outputs = rules::outputs_in(stepped.reply);
+        Glance {
+            outputs,
+            next: stepped.next,
+        }
     }
 }
 
-// 4 for a record outside its limits, then 6 for a horizon of 0 or above the longest; else the look. What it gives is the paper's sentence
-// (`each`), and its next record is refused afterwards only if this one was (`lasting`).
-pub fn look_ahead(r: Regulator, i: Input, horizon: u32) -> Outlook
-    ensures each { result ≡ ahead_of r i horizon }
-    ensures refusal { result.refusal ≡ choose (within_of r) (choose (is_horizon horizon) 0 6) 4 }
-    ensures lasting { within_of result.next ≡ within_of r }
+// Refused for a record outside its limits, then for a horizon of 0 or above the longest; else the look. What it gives is the paper's
+// sentence (`each`), and its next record is refused afterwards only if this one was (`lasting`).
+pub fn look_ahead(r: Regulator, i: Input, horizon: u32) -> Result<Outlook<Regulator>, Refusal>
+    ensures each { answer_of r result ≡ ahead_of r i horizon }
+    ensures refusal { (answer_of r result).refusal ≡ choose (within_of r) (choose (is_horizon horizon) 0 6) 4 }
+    ensures lasting { within_of (answer_of r result).next ≡ within_of r }
 {
     let settings = r.settings;
-    let state = r.state;
-    if !record_limits::within(&settings, state) {
-        return as_given(4, r);
+    if !record_limits::within(&settings, r.state) {
+        return Err(Refusal::Record);
     }
-    if (horizon < 1) | (horizon > LONGEST_HORIZON) {
-        return as_given(6, r);
+    if !is_horizon(horizon) {
+        return Err(Refusal::Horizon);
     }
-    look(r, i, horizon)
+    let repeated = OnRecord { settings, input: i };
+    let found = look(
+        &repeated,
+        r.state,
+        drive_follow::rests(r.state.drive),
+        horizon,
+    );
+    let outputs = found.outputs;
+    Ok(Outlook {
+        begun: found.begun,
+        outputs,
+        next: Regulator {
+            settings,
+            state: found.next,
+        },
+    })
 }

@@ -44,6 +44,7 @@ fn common_block(c: Contacts, fault: bool) -> bool
 
 // Whether the tap is the end tap that a direction runs into, and blocked there: `end`, or `other` where the taps are counted
 // reversed.
+#[tactic(auto, unfolding(crate::specs::Blocked::end_of))]
 fn at_end(s: &[u32; SLOTS], tap: u32, end: u32, other: u32) -> bool
     ensures { result ≡ end_of s.now tap end other }
 {
@@ -53,21 +54,24 @@ fn at_end(s: &[u32; SLOTS], tap: u32, end: u32, other: u32) -> bool
 }
 
 // The trips that block automatic commands.
+#[tactic(auto, unfolding(crate::specs::Blocked::organs_automatic_of))]
 fn organs_block_automatic(s: &[u32; SLOTS], t: [bool; 7]) -> bool
     ensures { result ≡ organs_automatic_of s.now t }
 {
-    let current = t[0] | t[1] | t[2];
-    let voltage = t[3] | t[4] | t[5] | t[6];
+    let current = t[..3].contains(&true);
+    let voltage = t[3..].contains(&true);
     ((s[CURRENT_ORGANS] == 0) & current) | ((s[VOLTAGE_ORGANS] == 0) & voltage)
 }
 
+#[tactic(auto, unfolding(crate::specs::Blocked::any_trip_of))]
 fn any_trip(t: [bool; 7]) -> bool
     ensures { result ≡ any_trip_of t }
 {
-    t[0] | t[1] | t[2] | t[3] | t[4] | t[5] | t[6]
+    t.contains(&true)
 }
 
 // Tap 0 where a tap is read and its end taps block.
+#[tactic(auto, unfolding(crate::specs::Blocked::tap_lost_of))]
 fn tap_lost(s: &[u32; SLOTS], tap: u32) -> bool
     ensures { result ≡ tap_lost_of s.now tap }
 {
@@ -75,22 +79,21 @@ fn tap_lost(s: &[u32; SLOTS], tap: u32) -> bool
 }
 
 // Rule 8.
+#[tactic(auto, using(crate::proofs::Laws::blocks_made))]
 pub fn judge_blocks(s: &[u32; SLOTS], c: Contacts, f: Found) -> Blocks
     ensures { result ≡ blocks_of s.now c f }
 {
-    let t = f.trips;
     let common = common_block(c, f.fault);
-    let by_organs = organs_block_automatic(s, t);
-    let no_tap = tap_lost(s, f.tap);
-    let tripped = any_trip(t);
-    let raise_end = at_end(s, f.tap, s[N_R], s[N_L]);
-    let lower_end = at_end(s, f.tap, s[N_L], s[N_R]);
     let manual_too = s[ORGANS_BLOCK_MANUAL] == 1;
     Blocks {
-        automatic: common | !f.section | f.u_missing | by_organs | no_tap,
-        manual: common | (manual_too & tripped),
-        raise: common | c.end_up | c.raise_block | raise_end,
-        lower: common | c.end_down | c.lower_block | lower_end,
+        automatic: common
+            | !f.section
+            | f.u_missing
+            | organs_block_automatic(s, f.trips)
+            | tap_lost(s, f.tap),
+        manual: common | (manual_too & any_trip(f.trips)),
+        raise: common | c.end_up | c.raise_block | at_end(s, f.tap, s[N_R], s[N_L]),
+        lower: common | c.end_down | c.lower_block | at_end(s, f.tap, s[N_L], s[N_R]),
     }
 }
 

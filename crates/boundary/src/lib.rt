@@ -36,16 +36,11 @@ pub extern "C" fn avr_start(list: &[u32]) -> Started
     ensures exactly { (result.number ≡ 0) ↔ Settings list.now }
     ensures lasting { result.number ≡ 0 → is_accepted result.image ≡ true }
 {
-    let s = record_starting::start(list);
-    let a = s.answer;
-    let state = s.state;
-    let number = sheet::number(a);
-    let slot = sheet::slot(a);
-    let image = image_writing::image_of(state);
+    let answer = record_starting::start(list);
     Started {
-        number: number,
-        slot: slot,
-        image: image,
+        number: sheet::number(&answer),
+        slot: sheet::slot(&answer),
+        image: image_writing::image_of(record_starting::record_of(answer)),
     }
 }
 

@@ -20,8 +20,7 @@ use Rattle.slots.specs.Slots.{slot, u_comp, ct_rating, breaker_rating}
 use Rattle.sheet_ranges.specs.Table.{module_factor}
 use Rattle.sheet_ranges.proofs.Tables.{factor_ge, factor_le}
 use Rattle.busbar_current.specs.Current.{most_reading, most_current, difference_of, Within}
-use Rattle.busbar_current.specs.declared.Value.{Value}
-use Rattle.busbar_current.specs.declared.Value.TheVariants.{Missing, Is}
+use Rattle.std.specs.Prelude.{Option, None, Some}
 use Rattle.busbar_current.proofs.Values.{first_missing, second_missing, both_made, within_is}
 use Rattle.busbar_compensation.specs.Voltage.{most_comp, most_rating, drop_of, is_rating, is_rated, voltage_drop}
 
@@ -92,36 +91,36 @@ module _ (s : List ℕ) (t : Bool) (e : t ≡ is_rated s) (p : t ≡ true) where
   pub breaker_rated : is_rating (slot s breaker_rating) ≡ true
   breaker_rated = and_right (is_rating (slot s ct_rating)) _ ratings
 
-pub current_read : (v : Value) (z : ℤ) → v ≡ Is z → Within most_current v → nat_abs (read z) ≤ most_current
+pub current_read : (v : Option ℤ) (z : ℤ) → v ≡ Some z → Within most_current v → nat_abs (read z) ≤ most_current
 current_read v z p h = small (back (exactly z (within_is most_current v z p h)) tt)
 
 -- U less the drop
-module _ (u : Value) (x r : ℤ) (p : u ≡ Is x) (h : Within most_reading u) (l : nat_abs r ≤ 2 ^ 60) where
+module _ (u : Option ℤ) (x r : ℤ) (p : u ≡ Some x) (h : Within most_reading u) (l : nat_abs r ≤ 2 ^ 60) where
   less : Stands (read x -ℤ read r) (x -ℤ r) (most_reading + 2 ^ 60)
   less = sub (back (exactly x (within_is most_reading u x p h)) tt) (back (exactly r l) tt)
 
   pub less_fits : SFits w64 (read x -ℤ read r)
   less_fits = fits less tt
 
-module _ (s : List ℕ) (u v : Value) (x : ℤ) (p : u ≡ Is x) where
-  pub less_missing : v ≡ Missing → Missing ≡ difference_of u (voltage_drop s v)
+module _ (s : List ℕ) (u v : Option ℤ) (x : ℤ) (p : u ≡ Some x) where
+  pub less_missing : v ≡ None → None ≡ difference_of u (voltage_drop s v)
   unfolding voltage_drop
-  less_missing q = second_missing Missing ◌-ℤ◌ u (voltage_drop s v) x p (rw q) refl
+  less_missing q = second_missing None ◌-ℤ◌ u (voltage_drop s v) x p (rw q) refl
 
-  module _ (y : ℤ) (q : v ≡ Is y) (t : Bool) (e : t ≡ is_rated s) where
-    pub less_unrated : t ≡ false → Missing ≡ difference_of u (voltage_drop s v)
+  module _ (y : ℤ) (q : v ≡ Some y) (t : Bool) (e : t ≡ is_rated s) where
+    pub less_unrated : t ≡ false → None ≡ difference_of u (voltage_drop s v)
     unfolding voltage_drop
-    less_unrated n = second_missing Missing ◌-ℤ◌ u (voltage_drop s v) x p (rw q (sym (no_told Missing _ _ t (is_rated s) e n refl))) refl
+    less_unrated n = second_missing None ◌-ℤ◌ u (voltage_drop s v) x p (rw q (sym (no_told None _ _ t (is_rated s) e n refl))) refl
 
     pub less_made : (r : ℤ) (k : ℕ) → Within most_reading u → Within most_current v → t ≡ true → k ≡ module_factor s
-        → r ≡ drop_of (slot s u_comp) (read y) k (slot s ct_rating) (slot s breaker_rating) → nat_abs r ≤ 2 ^ 60 → Is (read (read x -ℤ read r)) ≡ difference_of u (voltage_drop s v)
+        → r ≡ drop_of (slot s u_comp) (read y) k (slot s ct_rating) (slot s breaker_rating) → nat_abs r ≤ 2 ^ 60 → Some (read (read x -ℤ read r)) ≡ difference_of u (voltage_drop s v)
     unfolding voltage_drop
     less_made r k h w n f g l =
         let here : read y ≡ y = (back (exactly y (within_is most_current v y q w)) tt).is in
-        let there : voltage_drop s v ≡ Is r = rw q (sym (yes_told (Is r) _ _ t (is_rated s) e n (cc))) in
-        both_made _ ◌-ℤ◌ u (voltage_drop s v) x r p there (ap Is (back (less u x r p h l) tt).is)
+        let there : voltage_drop s v ≡ Some r = rw q (sym (yes_told (Some r) _ _ t (is_rated s) e n (cc))) in
+        both_made _ ◌-ℤ◌ u (voltage_drop s v) x r p there (ap Some (back (less u x r p h l) tt).is)
 
-pub less_of : (s : List ℕ) (r a u i v : Value) → r ≡ difference_of a (voltage_drop s i) → a ≡ u → i ≡ v → r ≡ difference_of u (voltage_drop s v)
+pub less_of : (s : List ℕ) (r a u i v : Option ℤ) → r ≡ difference_of a (voltage_drop s i) → a ≡ u → i ≡ v → r ≡ difference_of u (voltage_drop s v)
 less_of s r a u i v e p q = cc
 
 pub ruleset drops = (

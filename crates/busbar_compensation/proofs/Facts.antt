@@ -15,7 +15,7 @@ use Rattle.sheet_ranges.proofs.Tables.{factor_ge}
 use Rattle.sheet.specs.Sheet.{passes_of}
 use Rattle.sheet.proofs.Laws.{u_comp_range, ct_range, breaker_range}
 use Rattle.busbar_compensation.specs.Voltage.{drop_of, module_drop, is_rating, is_rated, voltage_drop}
-use Rattle.busbar_current.specs.declared.Value.TheVariants.{Is}
+use Rattle.std.specs.Prelude.{Some}
 use Rattle.busbar_compensation.proofs.Drops.{divisor_positive, breaker_rated}
 
 -- "01's case stands for equal ratings"
@@ -38,13 +38,13 @@ module _ (s : List ℕ) (e : passes_of s ≡ true) where
 
   module _ (i : ℤ) where
     -- so the drop is there, and the paper's
-    pub taken_drop : voltage_drop s (Is i) ≡ Is (drop_of (slot s u_comp) i (module_factor s) (slot s ct_rating) (slot s breaker_rating))
+    pub taken_drop : voltage_drop s (Some i) ≡ Some (drop_of (slot s u_comp) i (module_factor s) (slot s ct_rating) (slot s breaker_rating))
     unfolding voltage_drop
     taken_drop = sym (yes _ _ _ (is_rated s) taken_rated refl)
 
     -- and 01's where the ratings are equal
-    pub module_drop_lem : slot s ct_rating ≡ slot s breaker_rating → voltage_drop s (Is i) ≡ Is (module_drop (slot s u_comp) i (module_factor s))
+    pub module_drop_lem : slot s ct_rating ≡ slot s breaker_rating → voltage_drop s (Some i) ≡ Some (module_drop (slot s u_comp) i (module_factor s))
     module_drop_lem q =
         taken_drop
-        ∙ ap (λ (n : ℕ). Is (drop_of (slot s u_comp) i (module_factor s) n (slot s breaker_rating))) q
-        ∙ ap Is (equal_ratings (slot s u_comp) i (module_factor s) (slot s breaker_rating) (breaker_range s e).0)
+        ∙ ap (λ (n : ℕ). Some (drop_of (slot s u_comp) i (module_factor s) n (slot s breaker_rating))) q
+        ∙ ap Some (equal_ratings (slot s u_comp) i (module_factor s) (slot s breaker_rating) (breaker_range s e).0)

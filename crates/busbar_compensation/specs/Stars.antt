@@ -1,6 +1,6 @@
 -- The worked values of the drop and of U, as one list and one statement (01, 'Bench values'; those of U, and of the drop by two ratings, go
 -- beyond the paper's). A star that gives no ratings has 1,250 A for both, which is 01's case.
-use Rattle.std.specs.Prelude.{◌≡◌, refl, List, [], ◌∷◌, map, ℕ, ℤ, pos, negsuc, set, replicate}
+use Rattle.std.specs.Prelude.{◌≡◌, refl, List, [], ◌∷◌, map, ℕ, ℤ, pos, negsuc, Option, None, Some, set, replicate}
 use Rattle.common.specs.Choice.{choose}
 use Rattle.slots.specs.Slots.{slots, module_kind, compensation, compensation_current, u_comp, ct_rating, breaker_rating}
 use Rattle.measure.specs.declared.Measured.{Measured}
@@ -8,8 +8,6 @@ use Rattle.measure.specs.declared.Measured.TheVariants.{Good, Held}
 use Rattle.sheet_ranges.specs.Table.{module_factor}
 use Rattle.busbar_current.specs.Current.{good_of, both, picked_of, current_of}
 use Rattle.busbar_compensation.specs.Voltage.{drop_of, is_rating, is_rated, voltage_drop, voltage_of}
-use Rattle.busbar_current.specs.declared.Value.{Value}
-use Rattle.busbar_current.specs.declared.Value.TheVariants.{Missing, Is}
 
 -- a slot and its number
 infix 50 ◌is◌
@@ -27,7 +25,7 @@ sheet ((i is n) ∷ rest) = set (sheet rest) i n
 pub data Star : Type 0 where
   drop_star : ℕ → ℕ → ℤ → ℤ → Star
   rated_star : ℕ → ℕ → ℕ → ℕ → ℤ → ℤ → Star
-  voltage_star : ℕ → ℕ → Measured → Measured → Measured → Value → Star
+  voltage_star : ℕ → ℕ → Measured → Measured → Measured → Option ℤ → Star
 
 abbrev pub stars : List Star
 stars =
@@ -40,16 +38,16 @@ stars =
     ∷ rated_star 5100 1 2000 1250 (negsuc 36) (negsuc 59)
     -- the largest that a sheet and readings give
     ∷ rated_star 40000 0 20000 1 (pos 80000) (pos 64000000000)
-    ∷ voltage_star 5100 1 (Good 100000) (Good 1) (Good 4) (Is (pos 100003))
-    ∷ voltage_star 5100 1 (Good 100000) (Good 4) (Good 1) (Is (pos 99997))
-    ∷ voltage_star 5100 0 (Good 100000) (Good 1) (Good 4) (Is (pos 100015))
-    ∷ voltage_star 5100 1 (Held 100000) (Good 1) (Good 4) Missing
-    ∷ voltage_star 5100 1 (Good 100000) (Good 1) (Held 4) Missing
+    ∷ voltage_star 5100 1 (Good 100000) (Good 1) (Good 4) (Some (pos 100003))
+    ∷ voltage_star 5100 1 (Good 100000) (Good 4) (Good 1) (Some (pos 99997))
+    ∷ voltage_star 5100 0 (Good 100000) (Good 1) (Good 4) (Some (pos 100015))
+    ∷ voltage_star 5100 1 (Held 100000) (Good 1) (Good 4) None
+    ∷ voltage_star 5100 1 (Good 100000) (Good 1) (Held 4) None
     ∷ []
 
-abbrev pub expected : Star → Value
-expected (drop_star comp kind i z) = Is z
-expected (rated_star comp kind ct breaker i z) = Is z
+abbrev pub expected : Star → Option ℤ
+expected (drop_star comp kind i z) = Some z
+expected (rated_star comp kind ct breaker i z) = Some z
 expected (voltage_star comp kind ab bus coupler u) = u
 
 abbrev pub rated_sheet : ℕ → ℕ → ℕ → ℕ → List ℕ
@@ -60,9 +58,9 @@ rated_sheet comp kind ct breaker =
 abbrev pub drop_sheet : ℕ → ℕ → List ℕ
 drop_sheet comp kind = rated_sheet comp kind 1250 1250
 
-abbrev pub found : Star → Value
-found (drop_star comp kind i z) = voltage_drop (drop_sheet comp kind) (Is i)
-found (rated_star comp kind ct breaker i z) = voltage_drop (rated_sheet comp kind ct breaker) (Is i)
+abbrev pub found : Star → Option ℤ
+found (drop_star comp kind i z) = voltage_drop (drop_sheet comp kind) (Some i)
+found (rated_star comp kind ct breaker i z) = voltage_drop (rated_sheet comp kind ct breaker) (Some i)
 found (voltage_star comp kind ab bus coupler u) = voltage_of (drop_sheet comp kind) ab bus coupler
 
 pub stars_are : map found stars ≡ map expected stars

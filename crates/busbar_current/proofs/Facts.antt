@@ -16,8 +16,7 @@ use Rattle.measure.specs.declared.Measured.{Measured}
 use Rattle.measure.specs.declared.Measured.TheVariants.{Good, Held, Missing}
 use Rattle.measure.specs.declared.Reading.{Reading}
 use Rattle.busbar_current.specs.Current.{most_reading, good_of, number_of, is_missing, both}
-use Rattle.busbar_current.specs.declared.Value.{Value}
-use Rattle.busbar_current.specs.declared.Value.TheVariants as value
+use Rattle.std.specs.Prelude.{Option, None, Some}
 
 -- a number that is not above the bound is left as it is
 uncut : (n : ℕ) (m : Measured) → n ≤ most_reading → AtMost n m → good_of m ≡ number_of m
@@ -37,8 +36,8 @@ pub no_cut_off : (c : Channel) (r : Reading) → good_of (measured_of (limit_of 
 no_cut_off c r = uncut (1000 * limit_of c) (measured_of (limit_of c) r) (within c) (measured (limit_of c) r refl).1
 
 -- of two numbers that are needed, none may be missing
-pub both_missing : (f : ℤ → ℤ → ℤ) (a b : Value) → is_missing (both f a b) ≡ (is_missing a || is_missing b)
+pub both_missing : (f : ℤ → ℤ → ℤ) (a b : Option ℤ) → is_missing (both f a b) ≡ (is_missing a || is_missing b)
 unfolding both
-both_missing f value.Missing b = refl
-both_missing f (value.Is x) value.Missing = refl
-both_missing f (value.Is x) (value.Is y) = refl
+both_missing f None b = refl
+both_missing f (Some x) None = refl
+both_missing f (Some x) (Some y) = refl

@@ -9,89 +9,72 @@ use borrow.Author.Tests.{leb-true}
 use lib.Dec.{leb, lit≤}
 use lib.IntN.{ℤ, pos, nat_abs}
 use mir.Syntax.{w64}
-use mir.Val.{SFits, to_z}
+use mir.Val.{to_z}
 use Rattle.common.proofs.Cases.{cases, chosen}
-use Rattle.common.proofs.Signed.{Stands, exactly, fits, read, back, cast}
+use Rattle.common.proofs.Signed.{cast}
 use Rattle.measure.specs.declared.Measured.{Measured}
 use Rattle.measure.specs.declared.Measured.TheVariants as measured
-use Rattle.busbar_current.specs.Current.{most_reading, reading_of, good_of, both, current_of, most_current, Within}
-use Rattle.busbar_current.specs.declared.Value.{Value}
-use Rattle.busbar_current.specs.declared.Value.TheVariants.{Missing, Is}
-use Rattle.busbar_current.proofs.Picked.{Joins, joined, picked_has}
+use Rattle.busbar_current.specs.Current.{most_reading, good_of, both, current_of, most_current, Within}
+use Rattle.std.specs.Prelude.{Option, None, Some, IfSome}
+use Rattle.busbar_current.proofs.Picked.{Joins, picked_has}
 
 -- ---- readings
 
-module _ (r : Value) where
-  pub good_good : (m : Measured) (n : ℕ) → m ≡ measured.Good n → r ≡ reading_of n → r ≡ good_of m
-  unfolding good_of
-  good_good m n p q = rw p q
+pub is_cast : (n : ℕ) → n < 2 ^ 32 → Some (to_z w64 n) ≡ Some (pos n)
+is_cast n h = ap Some (cast h).is
 
-  pub good_held : (m : Measured) (n : ℕ) → m ≡ measured.Held n → r ≡ Missing → r ≡ good_of m
-  unfolding good_of
-  good_held m n p q = rw p q
+-- ---- two of which each is needed
 
-  pub good_missing : (m : Measured) → m ≡ measured.Missing → r ≡ Missing → r ≡ good_of m
-  unfolding good_of
-  good_missing m p q = rw p q
-
-pub is_cast : (n : ℕ) → n < 2 ^ 32 → Is (to_z w64 n) ≡ Is (pos n)
-is_cast n h = ap Is (cast h).is
-
--- ---- two numbers, and numbers that are not too large
-
-module _ (r : Value) (f : ℤ → ℤ → ℤ) where
-  pub first_missing : (a b : Value) → a ≡ Missing → r ≡ Missing → r ≡ both f a b
+module _ {A : Type 0} (r : Option A) (f : A → A → A) where
+  pub first_missing : (a b : Option A) → a ≡ None → r ≡ None → r ≡ both f a b
   unfolding both
   first_missing a b p q = rw p q
 
-  pub second_missing : (a b : Value) (x : ℤ) → a ≡ Is x → b ≡ Missing → r ≡ Missing → r ≡ both f a b
+  pub second_missing : (a b : Option A) (x : A) → a ≡ Some x → b ≡ None → r ≡ None → r ≡ both f a b
   unfolding both
   second_missing a b x p e q = rw (p, e) q
 
-  pub both_of : (a b x y : Value) → r ≡ both f a b → a ≡ x → b ≡ y → r ≡ both f x y
-  both_of a b x y e p q = cc
-
-  pub both_made : (a b : Value) (x y : ℤ) → a ≡ Is x → b ≡ Is y → r ≡ Is (f x y) → r ≡ both f a b
+  pub both_made : (a b : Option A) (x y : A) → a ≡ Some x → b ≡ Some y → r ≡ Some (f x y) → r ≡ both f a b
   unfolding both
   both_made a b x y p q e = rw (p, q) e
 
-pub within_is : (n : ℕ) (v : Value) (z : ℤ) → v ≡ Is z → Within n v → nat_abs z ≤ n
+pub within_is : (n : ℕ) (v : Option ℤ) (z : ℤ) → v ≡ Some z → Within n v → nat_abs z ≤ n
 unfolding Within
 within_is n v z p h = rw p at h
 
--- a sum or a difference
-module _ (f : ℤ → ℤ → ℤ) (l : Joins f) (a b : Value) (x y : ℤ) (p : a ≡ Is x) (q : b ≡ Is y) (h : Within most_reading a) (k : Within most_reading b) where
-  result : Stands (f (read x) (read y)) (f x y) (most_reading + most_reading)
-  result = joined f l (back (exactly x (within_is most_reading a x p h)) tt) (back (exactly y (within_is most_reading b y q k)) tt)
-
-  pub both_fits : SFits w64 (f (read x) (read y))
-  both_fits = fits result tt
-
-  pub both_is : Is (read (f (read x) (read y))) ≡ both f a b
-  both_is = both_made _ f a b x y p q (ap Is (back result tt).is)
+-- ---- numbers that are not too large
 
 good_le : (m : Measured) → Within most_reading (good_of m)
 unfolding good_of Within
-good_le (measured.Good n) = chosen (Within most_reading) (leb n most_reading) (Is (pos n)) Missing (λ p. leb-true n most_reading p) (λ p. tt)
+good_le (measured.Good n) = chosen (Within most_reading) (leb n most_reading) (Some (pos n)) None (λ p. leb-true n most_reading p) (λ p. tt)
 good_le (measured.Held n) = tt
 good_le measured.Missing = tt
 
-pub good_within : (r : Value) (m : Measured) → r ≡ good_of m → Within most_reading r
+pub good_within : (r : Option ℤ) (m : Measured) → r ≡ good_of m → Within most_reading r
 good_within r m e = rw e (good_le m)
 
-more : (n m : ℕ) (v : Value) → n ≤ m → Within n v → Within m v
+small : (r : Option ℤ) → Within most_reading r → IfSome r (λ z. nat_abs z ≤ most_reading)
 unfolding Within
-more n m Missing l h = tt
-more n m (Is z) l h = le_trans h l
+small None h = tt
+small (Some z) h = h
 
-both_le : (f : ℤ → ℤ → ℤ) → Joins f → (n : ℕ) (a b : Value) → Within n a → Within n b → Within (n + n) (both f a b)
+-- a number that slot 4 may join
+pub good_small : (r : Option ℤ) (m : Measured) → r ≡ good_of m → IfSome r (λ z. nat_abs z ≤ most_reading)
+good_small r m e = small r (good_within r m e)
+
+more : (n m : ℕ) (v : Option ℤ) → n ≤ m → Within n v → Within m v
+unfolding Within
+more n m None l h = tt
+more n m (Some z) l h = le_trans h l
+
+both_le : (f : ℤ → ℤ → ℤ) → Joins f → (n : ℕ) (a b : Option ℤ) → Within n a → Within n b → Within (n + n) (both f a b)
 unfolding both Within
-both_le f l n Missing b h k = tt
-both_le f l n (Is x) Missing h k = tt
-both_le f l n (Is x) (Is y) h k = omega (arith, l x y)
+both_le f l n None b h k = tt
+both_le f l n (Some x) None h k = tt
+both_le f l n (Some x) (Some y) h k = omega (arith, l x y)
 
 -- |I| is at most the sum of the two currents
-pub current_within : (r : Value) (s : List ℕ) (bus coupler : Measured) → r ≡ current_of s bus coupler → Within most_current r
+pub current_within : (r : Option ℤ) (s : List ℕ) (bus coupler : Measured) → r ≡ current_of s bus coupler → Within most_current r
 unfolding current_of
 current_within r s bus coupler e =
     let b = good_le bus in
@@ -101,15 +84,4 @@ current_within r s bus coupler e =
     (λ f l. both_le f l most_reading _ _ b c))
 
 -- readings and what is computed of them
-pub ruleset values = (
-  good_good,
-  good_held,
-  good_missing,
-  is_cast,
-  first_missing,
-  second_missing,
-  both_of,
-  good_within,
-  current_within,
-  cases,
-)
+pub ruleset values = (is_cast, good_within, good_small, current_within, cases)

@@ -1,12 +1,11 @@
 -- Rule 6 of 01: the number of a Good reading, and the current of the compensation. Definitions only.
-use Rattle.std.specs.Prelude.{ℕ, ◌+◌, ◌*◌, ◌≤◌, Bool, true, false, List, eqb, leb, ℤ, pos, nat_abs, ◌+ℤ◌, ◌-ℤ◌}
+use Rattle.std.specs.Prelude.{ℕ, ◌+◌, ◌*◌, ◌≤◌, Bool, true, false, Option, None, Some, List, eqb, leb, ℤ, pos, nat_abs, ◌+ℤ◌, ◌-ℤ◌}
 use Rattle.common.specs.Choice.{choose}
 use Rattle.slots.specs.Slots.{slot, compensation_current}
 use Rattle.measure.specs.declared.Measured.{Measured}
 use Rattle.measure.specs.declared.Measured.TheVariants as measured
 use Rattle.measure.specs.Readings.{most_volts}
-use Rattle.busbar_current.specs.declared.Value.{Value}
-use Rattle.busbar_current.specs.declared.Value.TheVariants.{Missing, Is}
+use Rattle.phasor.specs.declared.Vector.{Vector}
 
 -- 200 V, or 200 A of a 5 A module, in thousandths: no reading is above it
 abbrev pub most_reading : ℕ
@@ -17,36 +16,40 @@ abbrev pub most_current : ℕ
 most_current = most_reading + most_reading
 
 -- "a number that is .. above 200 V or 40 × k A is missing": `measure` gives none
-abbrev pub reading_of : ℕ → Value
-reading_of n = choose (leb n most_reading) (Is (pos n)) Missing
+abbrev pub reading_of : ℕ → Option ℤ
+reading_of n = choose (leb n most_reading) (Some (pos n)) None
 
 -- the number of a Good reading, which is "missing or Held" otherwise
-unfoldable pub good_of : Measured → Value
+unfoldable pub good_of : Measured → Option ℤ
 good_of (measured.Good n) = reading_of n
-good_of (measured.Held n) = Missing
-good_of measured.Missing = Missing
+good_of (measured.Held n) = None
+good_of measured.Missing = None
 
 -- the same of any number, however large: `proofs/Facts.antt` shows that the bound takes no reading away
-unfoldable pub number_of : Measured → Value
-number_of (measured.Good n) = Is (pos n)
-number_of (measured.Held n) = Missing
-number_of measured.Missing = Missing
+unfoldable pub number_of : Measured → Option ℤ
+number_of (measured.Good n) = Some (pos n)
+number_of (measured.Held n) = None
+number_of measured.Missing = None
 
 -- whether there is no number
-abbrev pub is_missing : Value → Bool
-is_missing Missing = true
-is_missing (Is z) = false
+abbrev pub is_missing : Option ℤ → Bool
+is_missing None = true
+is_missing (Some z) = false
 
--- of two numbers, each of which is needed
-unfoldable pub both : (ℤ → ℤ → ℤ) → Value → Value → Value
-both f Missing b = Missing
-both f (Is x) Missing = Missing
-both f (Is x) (Is y) = Is (f x y)
+-- of two numbers, or pairs, each of which is needed
+unfoldable pub both : {A : Type 0} → (A → A → A) → Option A → Option A → Option A
+both f None b = None
+both f (Some x) None = None
+both f (Some x) (Some y) = Some (f x y)
 
-abbrev pub sum_of : Value → Value → Value
+-- of two pairs, part by part
+abbrev pub parts : (ℤ → ℤ → ℤ) → Vector → Vector → Vector
+parts f u v = record { re = f u.re v.re; im = f u.im v.im }
+
+abbrev pub sum_of : Option ℤ → Option ℤ → Option ℤ
 sum_of a b = both ◌+ℤ◌ a b
 
-abbrev pub difference_of : Value → Value → Value
+abbrev pub difference_of : Option ℤ → Option ℤ → Option ℤ
 difference_of a b = both ◌-ℤ◌ a b
 
 -- slot 4: "0 bus, 1 coupler, 2 bus − coupler, 3 bus + coupler", of two numbers or, `by` their parts, of two pairs; no taken sheet has
@@ -59,10 +62,10 @@ picked_of by s bus coupler =
     (by ◌+ℤ◌ bus coupler)))
 
 -- the current of the compensation
-unfoldable pub current_of : List ℕ → Measured → Measured → Value
+unfoldable pub current_of : List ℕ → Measured → Measured → Option ℤ
 current_of s bus coupler = picked_of both s (good_of bus) (good_of coupler)
 
 -- a number's magnitude is not above n
-unfoldable pub Within : ℕ → Value → Type 0
-Within n Missing = Unit
-Within n (Is z) = nat_abs z ≤ n
+unfoldable pub Within : ℕ → Option ℤ → Type 0
+Within n None = Unit
+Within n (Some z) = nat_abs z ≤ n

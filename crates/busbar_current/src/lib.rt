@@ -1,87 +1,107 @@
-// What rule 6 takes of readings: the number of a Good one, and the current of the compensation.
+// What rule 6 takes of readings: the number of a Good one, in mV or mA, and the current of the compensation, of numbers or of pairs.
 #![tactic(auto)]
 
-ghost use Rattle.std.specs.Prelude.{◌≡◌};
-ghost use Rattle.busbar_current.specs.Current.{most_reading, reading_of, good_of, sum_of, difference_of, current_of, Within};
+ghost use Rattle.std.specs.Prelude.{◌≡◌, ◌≤◌, ℤ, ◌+ℤ◌, ◌-ℤ◌, nat_abs, IfSome};
+ghost use Rattle.busbar_current.specs.Current.{most_reading, reading_of, good_of, both, parts, picked_of, current_of};
 
 use measure::Measured;
+use phasor::Vector;
 use slots::{COMPENSATION_CURRENT, SLOTS};
-
-// A signed number of mV or mA, or missing.
-#[derive(Clone, Copy)]
-pub enum Value {
-    Missing,
-    Is(i64),
-}
 
 // 200 V, or 200 A of a 5 A module: no reading is above it.
 const MOST_READING: u32 = 200_000;
 
+// What slot 4 picks or joins: a number, or a pair, which is joined part by part.
+pub trait Quantity: Copy {
+    ghost is_small: { Self → Type 0 };
+
+    // Two of them joined, by what joins two numbers.
+    ghost by: { (ℤ → ℤ → ℤ) → Self → Self → Self };
+
+    fn sum(self, other: Self) -> Self
+        requires { is_small self × is_small other }
+        ensures { result ≡ by ◌+ℤ◌ self other };
+
+    fn difference(self, other: Self) -> Self
+        requires { is_small self × is_small other }
+        ensures { result ≡ by ◌-ℤ◌ self other };
+}
+
+impl Quantity for i64 {
+    ghost is_small = { λ z. nat_abs z ≤ most_reading };
+
+    ghost by = { λ f. f };
+
+    fn sum(self, other: i64) -> i64 {
+        self + other
+    }
+
+    fn difference(self, other: i64) -> i64 {
+        self - other
+    }
+}
+
+impl Quantity for Vector {
+    ghost is_small = { λ v. (nat_abs v.re ≤ most_reading) × (nat_abs v.im ≤ most_reading) };
+
+    ghost by = { parts };
+
+    fn sum(self, other: Vector) -> Vector {
+        Vector {
+            re: self.re.sum(other.re),
+            im: self.im.sum(other.im),
+        }
+    }
+
+    fn difference(self, other: Vector) -> Vector {
+        Vector {
+            re: self.re.difference(other.re),
+            im: self.im.difference(other.im),
+        }
+    }
+}
+
 // A reading's number. One above what a reading can be is missing.
-fn reading(n: u32) -> Value
+#[tactic(auto, using(crate::proofs::Values::values))]
+fn reading(n: u32) -> Option<i64>
     ensures { result ≡ reading_of n }
 {
     if n <= MOST_READING {
-        Value::Is(n as i64)
+        Some(n as i64)
     } else {
-        Value::Missing
+        None
     }
 }
 
 // The number of a Good reading; a Held one counts as missing here.
-pub fn good(m: Measured) -> Value
+#[tactic(auto, unfolding(crate::specs::Current::good_of))]
+pub fn good(m: Measured) -> Option<i64>
     ensures { result ≡ good_of m }
 {
     match m {
         Measured::Good(n) => reading(n),
-        Measured::Held(_) => Value::Missing,
-        Measured::Missing => Value::Missing,
+        _ => None,
     }
 }
 
-// The sum of two numbers, missing if either is.
-fn sum(a: Value, b: Value) -> Value
-    requires { Within most_reading a × Within most_reading b }
-    ensures { result ≡ sum_of a b }
+// The current that slot 4 picks of two; only those that it names are needed.
+#[tactic(auto, using(common::proofs::Cases::cases), unfolding(crate::specs::Current::picked_of, crate::specs::Current::both))]
+pub fn pick<Q: Quantity>(s: &[u32; SLOTS], bus: Option<Q>, coupler: Option<Q>) -> Option<Q>
+    requires { IfSome bus Q.is_small × IfSome coupler Q.is_small }
+    ensures { result ≡ picked_of (λ f. both (Q.by f)) s.now bus coupler }
 {
-    match a {
-        Value::Missing => Value::Missing,
-        Value::Is(x) => match b {
-            Value::Missing => Value::Missing,
-            Value::Is(y) => Value::Is(x + y),
-        },
+    match s[COMPENSATION_CURRENT] {
+        0 => bus,
+        1 => coupler,
+        2 => Some(bus?.difference(coupler?)),
+        _ => Some(bus?.sum(coupler?)),
     }
 }
 
-// The difference of two numbers, missing if either is.
-fn difference(a: Value, b: Value) -> Value
-    requires { Within most_reading a × Within most_reading b }
-    ensures { result ≡ difference_of a b }
-{
-    match a {
-        Value::Missing => Value::Missing,
-        Value::Is(x) => match b {
-            Value::Missing => Value::Missing,
-            Value::Is(y) => Value::Is(x - y),
-        },
-    }
-}
-
-// The current I of the compensation, which slot 4 picks; only the readings that it names are needed.
-pub fn current(s: &[u32; SLOTS], i_bus: Measured, i_coupler: Measured) -> Value
+// The current I of the compensation.
+#[tactic(auto, using(crate::proofs::Values::values), unfolding(crate::specs::Current::current_of))]
+pub fn current(s: &[u32; SLOTS], i_bus: Measured, i_coupler: Measured) -> Option<i64>
     ensures { result ≡ current_of s.now i_bus i_coupler }
 {
-    let bus = good(i_bus);
-    let coupler = good(i_coupler);
-    if s[COMPENSATION_CURRENT] == 0 {
-        return bus;
-    }
-    if s[COMPENSATION_CURRENT] == 1 {
-        return coupler;
-    }
-    if s[COMPENSATION_CURRENT] == 2 {
-        difference(bus, coupler)
-    } else {
-        sum(bus, coupler)
-    }
+    pick(s, good(i_bus), good(i_coupler))
 }

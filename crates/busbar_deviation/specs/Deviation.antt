@@ -1,12 +1,10 @@
 -- Rule 6 of 01: how the voltage stands to U_supp; of rule 9, what asks for T3. Definitions only.
-use Rattle.std.specs.Prelude.{ℕ, ◌+◌, Bool, false, List, ℤ, pos, ◌+ℤ◌, ◌-ℤ◌, ◌*ℤ◌}
+use Rattle.std.specs.Prelude.{ℕ, ◌+◌, Bool, false, Option, None, Some, List, ℤ, pos, ◌+ℤ◌, ◌-ℤ◌, ◌*ℤ◌}
 use Rattle.std.specs.Int.Signed.{le_z, lt_z}
 use Rattle.common.specs.Choice.{choose}
 use Rattle.slots.specs.Slots.{slot, u_supp, d_u, u_set5}
 use Rattle.busbar_level.specs.declared.Level.{Level}
 use Rattle.busbar_level.specs.declared.Level.TheVariants as level
-use Rattle.busbar_current.specs.declared.Value.{Value}
-use Rattle.busbar_current.specs.declared.Value.TheVariants.{Missing, Is}
 
 -- "U_supp: highest set bit of 18, 17, 16, else 1"
 unfoldable pub supply_of : List ℕ → Bool → Bool → Bool → ℕ
@@ -26,11 +24,11 @@ unfoldable pub band_of : ℤ → ℕ → ℕ → Level
 band_of u supp d = choose (low_of u supp d) level.Low (choose (high_of u supp d) level.High level.InBand)
 
 -- "U is missing, and neither low nor high"
-unfoldable pub level_of : List ℕ → Value → ℕ → Level
-level_of s Missing supp = level.Missing
-level_of s (Is u) supp = band_of u supp (slot s d_u)
+unfoldable pub level_of : List ℕ → Option ℤ → ℕ → Option Level
+level_of s None supp = None
+level_of s (Some u) supp = Some (band_of u supp (slot s d_u))
 
 -- "U > U_set5"
-unfoldable pub far_above : List ℕ → Value → Bool
-far_above s Missing = false
-far_above s (Is u) = lt_z (pos (slot s u_set5)) u
+unfoldable pub far_above : List ℕ → Option ℤ → Bool
+far_above s None = false
+far_above s (Some u) = lt_z (pos (slot s u_set5)) u

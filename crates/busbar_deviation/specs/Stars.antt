@@ -1,8 +1,7 @@
 -- The worked values of the level, as one list and one statement (01, 'Bench values').
-use Rattle.std.specs.Prelude.{◌≡◌, refl, false, List, [], ◌∷◌, map, ℕ, pos, set, replicate}
+use Rattle.std.specs.Prelude.{◌≡◌, refl, false, List, [], ◌∷◌, map, ℕ, pos, Option, Some, set, replicate}
 use Rattle.common.specs.Choice.{choose}
 use Rattle.slots.specs.Slots.{slots, u_supp, d_u}
-use Rattle.busbar_current.specs.declared.Value.TheVariants.{Is}
 use Rattle.busbar_level.specs.declared.Level.{Level}
 use Rattle.busbar_level.specs.declared.Level.TheVariants.{Low, InBand, High}
 use Rattle.busbar_deviation.specs.Deviation.{supply_of, low_of, high_of, band_of, level_of}
@@ -19,15 +18,15 @@ stars =
     ∷ star 100000 2000 101000 High
     ∷ []
 
-abbrev pub expected : Star → Level
-expected (star supp d u l) = l
+abbrev pub expected : Star → Option Level
+expected (star supp d u l) = Some l
 
 -- a sheet of zeros but for U_supp and dU
 abbrev pub sheet : ℕ → ℕ → List ℕ
 sheet supp d = set (set (replicate slots 0) u_supp supp) d_u d
 
-abbrev pub found : Star → Level
-found (star supp d u l) = level_of (sheet supp d) (Is (pos u)) (supply_of (sheet supp d) false false false)
+abbrev pub found : Star → Option Level
+found (star supp d u l) = level_of (sheet supp d) (Some (pos u)) (supply_of (sheet supp d) false false false)
 
 pub stars_are : map found stars ≡ map expected stars
 unfolding choose supply_of low_of high_of band_of level_of

@@ -2,14 +2,14 @@
 #![tactic(auto)]
 
 ghost use Rattle.std.specs.Prelude.{◌≡◌, pos, ◌*ℤ◌};
-ghost use Rattle.std.specs.Int.Signed.{le_z, lt_z};
-ghost use Rattle.busbar_deviation.specs.Deviation.{supply_of, low_of, high_of, band_of, level_of, far_above};
+ghost use Rattle.std.specs.Int.Signed.{le_z};
+ghost use Rattle.busbar_deviation.specs.Deviation.{supply_of, band_of, level_of, far_above};
 
-use busbar_current::Value;
 use busbar_level::Level;
 use slots::{D_U, SLOTS, U_SET5, U_SUPP};
 
 // U_supp 2, 3 or 4 by the highest contact that is set, else U_supp 1.
+#[tactic(auto, using(common::proofs::Cases::cases), unfolding(crate::specs::Deviation::supply_of))]
 pub fn supply_voltage(s: &[u32; SLOTS], second: bool, third: bool, fourth: bool) -> u32
     ensures { result ≡ supply_of s.now second third fourth }
 {
@@ -23,61 +23,40 @@ pub fn supply_voltage(s: &[u32; SLOTS], second: bool, third: bool, fourth: bool)
 }
 
 // Whether 2u <= n: u against the half of n, rounded down, so that no product can overflow.
+#[tactic(auto, using(crate::proofs::Bands::bands))]
 fn twice_at_most(u: i64, n: i64) -> bool
     ensures { result ≡ le_z (pos 2 *ℤ u) n }
 {
     u <= n >> 1
 }
 
-fn is_low(u: i64, u_supp: u32, d_u: u32) -> bool
-    ensures { result ≡ low_of u u_supp d_u }
-{
-    twice_at_most(u, 2 * (u_supp as i64) - d_u as i64)
-}
-
-// 2U >= n exactly if not 2U <= n - 1.
-fn is_high(u: i64, u_supp: u32, d_u: u32) -> bool
-    ensures { result ≡ high_of u u_supp d_u }
-{
-    !twice_at_most(u, 2 * (u_supp as i64) + d_u as i64 - 1)
-}
-
-// A voltage against the band around U_supp.
+// A voltage against the band around U_supp. 2U >= n exactly if not 2U <= n - 1.
+#[tactic(auto, using(crate::proofs::Bands::bands))]
 fn band_level(u: i64, u_supp: u32, d_u: u32) -> Level
     ensures { result ≡ band_of u u_supp d_u }
 {
-    if is_low(u, u_supp, d_u) {
-        return Level::Low;
-    }
-    if is_high(u, u_supp, d_u) {
+    let middle = 2 * (u_supp as i64);
+    if twice_at_most(u, middle - d_u as i64) {
+        Level::Low
+    } else if !twice_at_most(u, middle + d_u as i64 - 1) {
         Level::High
     } else {
         Level::InBand
     }
 }
 
-// How U stands to the band.
-pub fn judge_level(s: &[u32; SLOTS], u: Value, u_supp: u32) -> Level
+// How U stands to the band; None where U is missing.
+#[tactic(auto, using(crate::proofs::Limits::limits))]
+pub fn judge_level(s: &[u32; SLOTS], u: Option<i64>, u_supp: u32) -> Option<Level>
     ensures { result ≡ level_of s.now u u_supp }
 {
-    match u {
-        Value::Missing => Level::Missing,
-        Value::Is(x) => band_level(x, u_supp, s[D_U]),
-    }
-}
-
-fn is_above(u: i64, limit: u32) -> bool
-    ensures { result ≡ lt_z (pos limit) u }
-{
-    u > limit as i64
+    Some(band_level(u?, u_supp, s[D_U]))
 }
 
 // Whether U is above U_set5.
-pub fn far_above(s: &[u32; SLOTS], u: Value) -> bool
+#[tactic(auto, using(crate::proofs::Limits::limits))]
+pub fn far_above(s: &[u32; SLOTS], u: Option<i64>) -> bool
     ensures { result ≡ far_above s.now u }
 {
-    match u {
-        Value::Missing => false,
-        Value::Is(x) => is_above(x, s[U_SET5]),
-    }
+    matches!(u, Some(x) if x > s[U_SET5] as i64)
 }

@@ -4,47 +4,36 @@
 ghost use Rattle.std.specs.Prelude.{◌≡◌};
 ghost use Rattle.busbar_level.specs.Levels.{side_of, is_missing, is_in_band};
 
-use ways::{Direction, Way};
+use ways::Direction;
 
-// How a voltage stands to the band around U_supp.
-#[derive(Clone, Copy)]
+// How a voltage stands to the band around U_supp. Where an Option of it is None, the voltage is missing.
+#[derive(Clone, Copy, PartialEq, Eq)]
 pub enum Level {
-    Missing,
     Low,
     InBand,
     High,
 }
 
 // The command that a deviation asks for: low a raise, high a lower.
-pub fn side_of(l: Level) -> Way
+#[tactic(auto, unfolding(crate::specs::Levels::side_of))]
+pub fn side_of(l: Option<Level>) -> Option<Direction>
     ensures { result ≡ side_of l }
 {
     match l {
-        Level::Missing => Way::Neither,
-        Level::Low => Way::To(Direction::Raise),
-        Level::InBand => Way::Neither,
-        Level::High => Way::To(Direction::Lower),
+        Some(Level::Low) => Some(Direction::Raise),
+        Some(Level::High) => Some(Direction::Lower),
+        Some(Level::InBand) | None => None,
     }
 }
 
-pub fn is_missing(l: Level) -> bool
+pub fn is_missing(l: Option<Level>) -> bool
     ensures { result ≡ is_missing l }
 {
-    match l {
-        Level::Missing => true,
-        Level::Low => false,
-        Level::InBand => false,
-        Level::High => false,
-    }
+    l.is_none()
 }
 
-pub fn is_in_band(l: Level) -> bool
+pub fn is_in_band(l: Option<Level>) -> bool
     ensures { result ≡ is_in_band l }
 {
-    match l {
-        Level::Missing => false,
-        Level::Low => false,
-        Level::InBand => true,
-        Level::High => false,
-    }
+    l == Some(Level::InBand)
 }

@@ -11,18 +11,13 @@ use slots::{I_SET3, SECTION_NEEDS_CURRENT, SLOTS};
 fn good_above(m: Measured, limit: u32) -> bool
     ensures { result ≡ good_above m limit }
 {
-    match m {
-        Measured::Good(n) => n > limit,
-        Measured::Held(_) => false,
-        Measured::Missing => false,
-    }
+    matches!(m, Measured::Good(n) if n > limit)
 }
 
 // Rule 3.
+#[tactic(auto, unfolding(crate::specs::Section::section_of))]
 pub fn section(s: &[u32; SLOTS], breaker_closed: bool, i_bus: Measured) -> bool
     ensures { result ≡ section_of s.now breaker_closed i_bus }
 {
-    let needs_current = s[SECTION_NEEDS_CURRENT] == 1;
-    let above = good_above(i_bus, s[I_SET3]);
-    breaker_closed & (!needs_current | above)
+    breaker_closed && (s[SECTION_NEEDS_CURRENT] != 1 || good_above(i_bus, s[I_SET3]))
 }

@@ -1,20 +1,18 @@
 -- Each case has its numbers and is given back by them; numbers that are some case's are those of the case that they give.
 -- Assumes nothing.
 use mathlib.Core.Path.{◌≡◌, refl}
-use mathlib.Core.Bool.{Bool, true, false, not, ◌&&◌, ◌||◌}
+use mathlib.Core.Bool.{true, false, not, ◌&&◌, ◌||◌}
 use Prim.Native.Nat.{ℕ, zero, suc, ◌≤◌}
 use native.Mathlib.Omega.{arith}
-use borrow.Author.Tests.{leb-true, eqb-true, ne_eqb}
+use borrow.Author.Tests.{leb-true, eqb-true}
 use lib.Dec.{leb, eqb}
 use Rattle.common.specs.Choice.{choose}
 use Rattle.common.proofs.Joined.{and_left, and_right}
-use Rattle.ways.specs.declared.Direction.{Direction}
 use Rattle.ways.specs.declared.Direction.TheVariants.{Raise, Lower}
 use Rattle.drive.specs.declared.Drive.{Drive}
 use Rattle.drive.specs.declared.Drive.TheVariants.{Resting, Asked, Moving}
 use Rattle.coding_drive.specs.declared.DriveImage.{DriveImage}
-use Rattle.coding_ways.specs.Numbers.{direction_number, direction_of}
-use Rattle.coding_drive.specs.Numbers.{asked_number, move_number, drive_image, drive_of, is_drive}
+use Rattle.coding_drive.specs.Numbers.{drive_image, drive_of, is_drive}
 use Rattle.coding_ways.proofs.Cases.{direction_back, direction_same}
 
 pub drive_back : (d : Drive) → drive_of (drive_image d) ≡ d
@@ -62,26 +60,3 @@ drive_at (suc (suc (suc (suc (suc k))))) d n p = absurd (omega (arith, (drive_ki
 
 pub drive_same : (m : DriveImage) → is_drive m ≡ true → drive_image (drive_of m) ≡ m
 drive_same m p = drive_at m.kind m.direction m.ticks p
-
-pub rests_made : (s : Drive) → s ≡ Resting → drive_at_lem 0 0 0 ≡ drive_image s
-unfolding drive_image
-rests_made s p = rw p
-
-pub asks_made : (s : Drive) (d : Direction) (a : Bool) (k n age : ℕ) → s ≡ Asked d age a → n ≡ direction_number d → k ≡ asked_number a
-    → drive_at_lem k n age ≡ drive_image s
-unfolding drive_image
-asks_made s d a k n age p q r = rw (p, q, r)
-
-pub moves_made : (s : Drive) (d : Direction) (c : Bool) (k n length : ℕ) → s ≡ Moving d length c → n ≡ direction_number d → k ≡ move_number c
-    → drive_at_lem k n length ≡ drive_image s
-unfolding drive_image
-moves_made s d c k n length p q r = rw (p, q, r)
-
-module _ (m : DriveImage) (d : Direction) (e : d ≡ direction_of m.direction) (moves : m.kind ≡ 0 → ⊥) where
-  pub asked_made : (eqb m.kind 1 || eqb m.kind 4) ≡ true → Asked d m.ticks (eqb m.kind 1) ≡ drive_of m
-  unfolding drive_of choose
-  asked_made p = rw (ne_eqb m.kind 0 moves, p, e)
-
-  pub moving_made : (eqb m.kind 1 || eqb m.kind 4) ≡ false → Moving d m.ticks (eqb m.kind 2) ≡ drive_of m
-  unfolding drive_of choose
-  moving_made p = rw (ne_eqb m.kind 0 moves, p, e)

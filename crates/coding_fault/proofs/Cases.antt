@@ -7,23 +7,24 @@ use native.Mathlib.Omega.{arith}
 use borrow.Author.Tests.{leb-true}
 use Rattle.common.specs.Choice.{choose}
 use Rattle.fault.specs.declared.Fault.{Fault}
-use Rattle.fault.specs.declared.Fault.TheVariants.{NoFault, RunAway, NotStarted, Long, Fast}
+use Rattle.std.specs.Prelude.{Option, None, Some}
+use Rattle.fault.specs.declared.Fault.TheVariants.{RunAway, NotStarted, Long, Fast}
 use Rattle.coding_fault.specs.Numbers.{fault_number, is_fault, fault_of}
 
-pub fault_back : (f : Fault) → fault_of (fault_number f) ≡ f
+pub fault_back : (f : Option Fault) → fault_of (fault_number f) ≡ f
 unfolding fault_of choose
-fault_back NoFault = refl
-fault_back RunAway = refl
-fault_back NotStarted = refl
-fault_back Long = refl
-fault_back Fast = refl
+fault_back None = refl
+fault_back (Some RunAway) = refl
+fault_back (Some NotStarted) = refl
+fault_back (Some Long) = refl
+fault_back (Some Fast) = refl
 
-pub fault_is : (f : Fault) → is_fault (fault_number f) ≡ true
-fault_is NoFault = refl
-fault_is RunAway = refl
-fault_is NotStarted = refl
-fault_is Long = refl
-fault_is Fast = refl
+pub fault_is : (f : Option Fault) → is_fault (fault_number f) ≡ true
+fault_is None = refl
+fault_is (Some RunAway) = refl
+fault_is (Some NotStarted) = refl
+fault_is (Some Long) = refl
+fault_is (Some Fast) = refl
 
 pub fault_same : (n : ℕ) → is_fault n ≡ true → fault_number (fault_of n) ≡ n
 unfolding fault_of choose

@@ -1,19 +1,19 @@
 -- A fault in numbers: the number of each case, and the case of each number. Definitions only.
-use Rattle.std.specs.Prelude.{ℕ, Bool, leb, eqb}
+use Rattle.std.specs.Prelude.{ℕ, Bool, leb, eqb, Option, None, Some}
 use Rattle.common.specs.Choice.{choose}
 use Rattle.fault.specs.declared.Fault.{Fault}
-use Rattle.fault.specs.declared.Fault.TheVariants.{NoFault, RunAway, NotStarted, Long, Fast}
+use Rattle.fault.specs.declared.Fault.TheVariants.{RunAway, NotStarted, Long, Fast}
 
-abbrev pub fault_number : Fault → ℕ
-fault_number NoFault = 0
-fault_number RunAway = 1
-fault_number NotStarted = 2
-fault_number Long = 3
-fault_number Fast = 4
+abbrev pub fault_number : Option Fault → ℕ
+fault_number None = 0
+fault_number (Some RunAway) = 1
+fault_number (Some NotStarted) = 2
+fault_number (Some Long) = 3
+fault_number (Some Fast) = 4
 
 abbrev pub is_fault : ℕ → Bool
 is_fault n = leb n 4
 
-unfoldable pub fault_of : ℕ → Fault
+unfoldable pub fault_of : ℕ → Option Fault
 fault_of n =
-    choose (eqb n 0) NoFault (choose (eqb n 1) RunAway (choose (eqb n 2) NotStarted (choose (eqb n 3) Long Fast)))
+    choose (eqb n 0) None (choose (eqb n 1) (Some RunAway) (choose (eqb n 2) (Some NotStarted) (choose (eqb n 3) (Some Long) (Some Fast))))

@@ -6,29 +6,30 @@ ghost use Rattle.coding_fault.specs.Numbers.{fault_number, fault_of};
 
 use fault::Fault;
 
-pub fn fault_number(f: Fault) -> u32
+// Functions, and no `From`: neither `Option` nor `u32` is a type of this crate.
+
+pub fn fault_number(f: Option<Fault>) -> u32
     ensures { result ≡ fault_number f }
 {
     match f {
-        Fault::NoFault => 0,
-        Fault::RunAway => 1,
-        Fault::NotStarted => 2,
-        Fault::Long => 3,
-        Fault::Fast => 4,
+        None => 0,
+        Some(Fault::RunAway) => 1,
+        Some(Fault::NotStarted) => 2,
+        Some(Fault::Long) => 3,
+        Some(Fault::Fast) => 4,
     }
 }
 
-pub fn fault_of(n: u32) -> Fault
+// Total: whether a number is some fault's is asked once, of the image as a whole.
+#[tactic(auto, using(common::proofs::Cases::cases), unfolding(crate::specs::Numbers::fault_of))]
+pub fn fault_of(n: u32) -> Option<Fault>
     ensures { result ≡ fault_of n }
 {
-    if n == 0 {
-        return Fault::NoFault;
+    match n {
+        0 => None,
+        1 => Some(Fault::RunAway),
+        2 => Some(Fault::NotStarted),
+        3 => Some(Fault::Long),
+        _ => Some(Fault::Fast),
     }
-    if n == 1 {
-        return Fault::RunAway;
-    }
-    if n == 2 {
-        return Fault::NotStarted;
-    }
-    if n == 3 { Fault::Long } else { Fault::Fast }
 }

@@ -1,11 +1,12 @@
 // The keys of the previous tick in numbers, and back; which numbers stand for a case.
-#![tactic(auto)]
+#![tactic(auto, unfolding(crate::specs::Numbers::key_image, crate::specs::Numbers::keys_of))]
 
 ghost use Rattle.std.specs.Prelude.{◌≡◌};
 ghost use Rattle.coding_keys.specs.Numbers.{key_image, keys_of, are_keys};
 
 use keys::{Buttons, Keys};
 
+// Numbers, since the C interface has them.
 // The keys of the previous tick, each 0 or 1: the panel's two buttons, the dispatcher's, and the mode, 1 being remote.
 #[repr(C)]
 #[derive(Clone, Copy)]
@@ -17,33 +18,35 @@ pub struct KeyImage {
     pub remote: u32,
 }
 
-pub fn key_image(k: Keys) -> KeyImage
-    ensures { result ≡ key_image k }
-{
-    let panel = k.panel;
-    let dispatcher = k.dispatcher;
-    KeyImage {
-        raise_button: panel.raise as u32,
-        lower_button: panel.lower as u32,
-        remote_raise: dispatcher.raise as u32,
-        remote_lower: dispatcher.lower as u32,
-        remote: k.remote as u32,
+impl From<Keys> for KeyImage {
+    ghost from_gives = { λ k m. m ≡ key_image k };
+
+    fn from(k: Keys) -> KeyImage {
+        KeyImage {
+            raise_button: k.panel.raise as u32,
+            lower_button: k.panel.lower as u32,
+            remote_raise: k.dispatcher.raise as u32,
+            remote_lower: k.dispatcher.lower as u32,
+            remote: k.remote as u32,
+        }
     }
 }
 
-pub fn keys_of(m: KeyImage) -> Keys
-    ensures { result ≡ keys_of m }
-{
-    Keys {
-        panel: Buttons {
-            raise: m.raise_button == 1,
-            lower: m.lower_button == 1,
-        },
-        dispatcher: Buttons {
-            raise: m.remote_raise == 1,
-            lower: m.remote_lower == 1,
-        },
-        remote: m.remote == 1,
+impl From<KeyImage> for Keys {
+    ghost from_gives = { λ m k. k ≡ keys_of m };
+
+    fn from(m: KeyImage) -> Keys {
+        Keys {
+            panel: Buttons {
+                raise: m.raise_button == 1,
+                lower: m.lower_button == 1,
+            },
+            dispatcher: Buttons {
+                raise: m.remote_raise == 1,
+                lower: m.remote_lower == 1,
+            },
+            remote: m.remote == 1,
+        }
     }
 }
 

@@ -1,12 +1,13 @@
 // The wait in numbers, and back; which numbers stand for a case.
-#![tactic(auto)]
+#![tactic(auto, using(crate::proofs::Cases::coded), unfolding(crate::specs::Numbers::wait_of))]
 
 ghost use Rattle.std.specs.Prelude.{◌≡◌};
 ghost use Rattle.coding_wait.specs.Numbers.{wait_image, wait_of, is_wait};
 
 use command::Wait;
-use ways::{Direction, Way};
+use ways::Direction;
 
+// Numbers, since the C interface has them.
 // `side`: 0 no wait, 1 the low side, which a raise answers, 2 the high side, which a lower answers. Without a wait both are 0.
 #[repr(C)]
 #[derive(Clone, Copy)]
@@ -15,36 +16,36 @@ pub struct WaitImage {
     pub ticks: u32,
 }
 
-pub fn wait_image(w: Wait) -> WaitImage
-    ensures { result ≡ wait_image w }
-{
-    match w {
-        Wait::Idle => WaitImage { side: 0, ticks: 0 },
-        Wait::For { direction, ticks } => {
-            let side = coding_ways::way_number(Way::To(direction));
-            WaitImage {
-                side: side,
-                ticks: ticks,
-            }
+impl From<Option<Wait>> for WaitImage {
+    ghost from_gives = { λ w m. m ≡ wait_image w };
+
+    fn from(w: Option<Wait>) -> WaitImage {
+        match w {
+            None => WaitImage { side: 0, ticks: 0 },
+            Some(wait) => WaitImage {
+                side: coding_ways::way_number(Some(wait.direction)),
+                ticks: wait.ticks,
+            },
         }
     }
 }
 
-pub fn wait_of(m: WaitImage) -> Wait
-    ensures { result ≡ wait_of m }
-{
-    if m.side == 0 {
-        return Wait::Idle;
-    }
-    if m.side == 1 {
-        Wait::For {
-            direction: Direction::Raise,
-            ticks: m.ticks,
-        }
-    } else {
-        Wait::For {
-            direction: Direction::Lower,
-            ticks: m.ticks,
+impl From<WaitImage> for Option<Wait> {
+    ghost from_gives = { λ m w. w ≡ wait_of m };
+
+    fn from(m: WaitImage) -> Option<Wait> {
+        if m.side == 0 {
+            None
+        } else if m.side == 1 {
+            Some(Wait {
+                direction: Direction::Raise,
+                ticks: m.ticks,
+            })
+        } else {
+            Some(Wait {
+                direction: Direction::Lower,
+                ticks: m.ticks,
+            })
         }
     }
 }
@@ -53,5 +54,5 @@ pub fn wait_of(m: WaitImage) -> Wait
 pub fn is_wait(m: WaitImage) -> bool
     ensures { result ≡ is_wait m }
 {
-    (m.side <= 2) & (!(m.side == 0) | (m.ticks == 0))
+    (m.side <= 2) & ((m.side != 0) | (m.ticks == 0))
 }

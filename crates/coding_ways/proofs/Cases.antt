@@ -9,8 +9,7 @@ use lib.Dec.{leb}
 use Rattle.common.specs.Choice.{choose}
 use Rattle.ways.specs.declared.Direction.{Direction}
 use Rattle.ways.specs.declared.Direction.TheVariants.{Raise, Lower}
-use Rattle.ways.specs.declared.Way.{Way}
-use Rattle.ways.specs.declared.Way.TheVariants.{Neither, To}
+use Rattle.std.specs.Prelude.{Option, None, Some}
 use Rattle.coding_ways.specs.Numbers.{direction_number, direction_of, way_number, is_way, way_of}
 
 pub direction_back : (d : Direction) → direction_of (direction_number d) ≡ d
@@ -24,16 +23,16 @@ direction_same zero p = refl
 direction_same (suc zero) p = refl
 direction_same (suc (suc n)) p = absurd (omega (arith, leb-true (suc (suc n)) 1 p))
 
-pub way_back : (w : Way) → way_of (way_number w) ≡ w
+pub way_back : (w : Option Direction) → way_of (way_number w) ≡ w
 unfolding way_of choose
-way_back Neither = refl
-way_back (To Raise) = refl
-way_back (To Lower) = refl
+way_back None = refl
+way_back (Some Raise) = refl
+way_back (Some Lower) = refl
 
-pub way_is : (w : Way) → is_way (way_number w) ≡ true
-way_is Neither = refl
-way_is (To Raise) = refl
-way_is (To Lower) = refl
+pub way_is : (w : Option Direction) → is_way (way_number w) ≡ true
+way_is None = refl
+way_is (Some Raise) = refl
+way_is (Some Lower) = refl
 
 pub way_same : (n : ℕ) → is_way n ≡ true → way_number (way_of n) ≡ n
 unfolding way_of choose

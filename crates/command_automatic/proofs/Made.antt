@@ -1,35 +1,50 @@
 -- The parts of a decision make it: each law is over plain values, as a function's branches have them, and `search` finds it.
 -- Assumes nothing.
-use mathlib.Core.Path.{◌≡◌}
+use mathlib.Core.Path.{◌≡◌, refl, sym, ◌∙◌}
+use denote.Enum.Bare.{sameb}
 use mathlib.Core.Bool.{Bool, true, false, not, ◌&&◌, ◌||◌}
 use mathlib.Core.List.{List}
 use Prim.Native.Nat.{ℕ}
 use Rattle.common.proofs.Cases.{yes, no, cases}
 use Rattle.slots.specs.Slots.{slot, t1, t2, t3, is_continuous}
+use Rattle.ways.specs.contracts.Direction.{the_type}
 use Rattle.ways.specs.declared.Direction.{Direction}
-use Rattle.ways.specs.declared.Way.{Way}
-use Rattle.ways.specs.declared.Way.TheVariants.{Neither, To}
+use Rattle.ways.specs.declared.Direction.TheVariants.{Raise, Lower}
+use Rattle.std.specs.Prelude.{Option, None, Some}
 use Rattle.ways.specs.Ways.{lowers, is_to, other_of, newer_of}
 use Rattle.blocks.specs.Blocked.{opposed_of}
 use Rattle.command.specs.declared.Wait.{Wait}
-use Rattle.command.specs.declared.Wait.TheVariants.{Idle, For}
 use Rattle.command.specs.declared.Situation.{Situation}
 use Rattle.command.specs.declared.Decided.{Decided}
-use Rattle.command.specs.Idling.{idle_of}
+use Rattle.command.specs.Idling.{idle_of, waits_for}
 use Rattle.command_automatic.specs.Automatic.{ticks_of, waited_of, delay_of, wait_on_of, toward_of, sided_of, kept_of, repeat_of}
 
 -- the wait to a side
-module _ (n : ℕ) (d : Direction) where
-  pub waited_idle : (w : Wait) → w ≡ Idle → n ≡ 0 → n ≡ waited_of d w
-  unfolding waited_of
-  waited_idle w p q = rw p q
+same_is : (d e : Direction) → sameb the_type e d ≡ is_to d (Some e)
+same_is Raise Raise = refl
+same_is Raise Lower = refl
+same_is Lower Raise = refl
+same_is Lower Lower = refl
 
-  pub waited_for : (w : Wait) (e : Direction) (k : ℕ) → w ≡ For e k → n ≡ ticks_of d (To e) k → n ≡ waited_of d w
+module _ (n : ℕ) (d : Direction) (w : Option Wait) where
+  pub waited_idle : w ≡ None → n ≡ 0 → n ≡ waited_of d w
   unfolding waited_of
-  waited_for w e k p q = rw p q
+  waited_idle p q = rw p q
+
+  pub waited_for : (e : Direction) (k : ℕ) → w ≡ waits_for e k → n ≡ ticks_of d (Some e) k → n ≡ waited_of d w
+  unfolding waited_of
+  waited_for e k p q = rw p q
+
+  pub waited_same : (v : Wait) → w ≡ Some v → true ≡ sameb the_type v.direction d → n ≡ v.ticks → n ≡ waited_of d w
+  unfolding waited_of ticks_of
+  waited_same v p t q = rw p (yes _ _ _ _ (sym (t ∙ same_is d v.direction)) q)
+
+  pub waited_other : (v : Wait) → w ≡ Some v → false ≡ sameb the_type v.direction d → n ≡ 0 → n ≡ waited_of d w
+  unfolding waited_of ticks_of
+  waited_other v p t q = rw p (no _ _ _ _ (sym (t ∙ same_is d v.direction)) q)
 
 -- the delay in force
-module _ (s : List ℕ) (d : Direction) (far : Bool) (repeat : Way) {r : ℕ} {low : Bool} (l : low ≡ lowers (To d)) where
+module _ (s : List ℕ) (d : Direction) (far : Bool) (repeat : Option Direction) {r : ℕ} {low : Bool} (l : low ≡ lowers (Some d)) where
   pub delay_far : (low && far) ≡ true → r ≡ slot s t3 → r ≡ delay_of s d far repeat
   unfolding delay_of
   delay_far t e = rw (← l) (yes _ _ _ _ t e)
@@ -53,17 +68,17 @@ module _ (s : List ℕ) (x : Situation) (r : Decided) where
   unfolding toward_of
   toward_free d e t p m q = rw (← e, ← p, ← m) (no _ _ _ _ t q)
 
-  pub sided_neither : (w : Way) → w ≡ Neither → r ≡ idle_of → r ≡ sided_of s x w
+  pub sided_neither : (w : Option Direction) → w ≡ None → r ≡ idle_of → r ≡ sided_of s x w
   unfolding sided_of
   sided_neither w p q = rw p q
 
-  pub sided_to : (w : Way) (d : Direction) → w ≡ To d → r ≡ toward_of s x d → r ≡ sided_of s x w
+  pub sided_to : (w : Option Direction) (d : Direction) → w ≡ Some d → r ≡ toward_of s x d → r ≡ sided_of s x w
   unfolding sided_of
   sided_to w d p q = rw p q
 
 -- the side for which T2 is in force
-module _ (in_band : Bool) (side old r : Way) {other : Bool} (e : other ≡ other_of side old) where
-  pub kept_not : (in_band || other) ≡ true → r ≡ Neither → r ≡ kept_of in_band side old
+module _ (in_band : Bool) (side old r : Option Direction) {other : Bool} (e : other ≡ other_of side old) where
+  pub kept_not : (in_band || other) ≡ true → r ≡ None → r ≡ kept_of in_band side old
   unfolding kept_of
   kept_not t q = rw (← e) (yes _ _ _ _ t q)
 
@@ -71,8 +86,8 @@ module _ (in_band : Bool) (side old r : Way) {other : Bool} (e : other ≡ other
   unfolding kept_of
   kept_on t q = rw (← e) (no _ _ _ _ t q)
 
-pub repeat_automatic : (automatic in_band : Bool) (side command old r : Way) {still : Way} → still ≡ kept_of in_band side old → r ≡ newer_of command still → automatic ≡ true → r ≡ repeat_of automatic in_band side command old
+pub repeat_automatic : (automatic in_band : Bool) (side command old r : Option Direction) {still : Option Direction} → still ≡ kept_of in_band side old → r ≡ newer_of command still → automatic ≡ true → r ≡ repeat_of automatic in_band side command old
 unfolding repeat_of
 repeat_automatic automatic in_band side command old r e q t = rw (← e) (yes _ _ _ _ t q)
 
-pub ruleset made = (waited_idle, waited_for, delay_far, delay_repeat, delay_first, toward_blocked, toward_free, sided_neither, sided_to, kept_not, kept_on, repeat_automatic, cases)
+pub ruleset made = (waited_idle, waited_for, waited_same, waited_other, delay_far, delay_repeat, delay_first, toward_blocked, toward_free, sided_neither, sided_to, kept_not, kept_on, repeat_automatic, cases)

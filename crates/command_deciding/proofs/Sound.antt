@@ -12,14 +12,13 @@ use Rattle.common.proofs.Cases.{yes, no, chosen}
 use Rattle.common.proofs.Joined.{or_left, or_right}
 use Rattle.ways.specs.declared.Direction.{Direction}
 use Rattle.ways.specs.declared.Direction.TheVariants.{Raise, Lower}
-use Rattle.ways.specs.declared.Way.{Way}
-use Rattle.ways.specs.declared.Way.TheVariants.{Neither, To}
+use Rattle.std.specs.Prelude.{Option, None, Some}
 use Rattle.ways.specs.Ways.{raises, lowers}
 use Rattle.blocks.specs.Blocked.{opposed_of}
-use Rattle.command.specs.declared.Wait.TheVariants.{Idle, For}
+use Rattle.command.specs.declared.Wait.{Wait}
 use Rattle.command.specs.declared.Situation.{Situation}
 use Rattle.command.specs.declared.Decided.{Decided}
-use Rattle.command.specs.Idling.{idle_of}
+use Rattle.command.specs.Idling.{idle_of, waits_for}
 use Rattle.command_automatic.specs.Automatic.{commanded_of, waited_of, delay_of, wait_on_of, toward_of, sided_of}
 use Rattle.command_manual.specs.Manual.{sought_of, granted_of, manual_of}
 use Rattle.command_deciding.specs.Deciding.{decided_of}
@@ -29,11 +28,11 @@ abbrev pub mode_blocked : Situation → Bool
 mode_blocked x = choose x.automatic x.blocks.automatic x.blocks.manual
 
 pub record Waits (s : List ℕ) (x : Situation) (o : Decided) (d : Direction) (n : ℕ) : Type 0 where
-  pub command : o.command ≡ Neither
+  pub command : o.command ≡ None
   pub resting : x.resting ≡ true
   pub early : n < delay_of s d x.far x.repeat
   pub automatic : x.automatic ≡ true
-  pub side : x.side ≡ To d
+  pub side : x.side ≡ Some d
   pub mode : x.blocks.automatic ≡ false
   pub direction : opposed_of x.blocks d ≡ false
 
@@ -43,8 +42,8 @@ pub record Begun (x : Situation) (d : Direction) : Type 0 where
   pub direction : opposed_of x.blocks d ≡ false
 
 pub record Sound (s : List ℕ) (x : Situation) (o : Decided) : Type 0 where
-  pub waits : (d : Direction) (n : ℕ) → o.wait ≡ For d n → Waits s x o d n
-  pub begins : (d : Direction) → o.command ≡ To d → Begun x d
+  pub waits : (d : Direction) (n : ℕ) → o.wait ≡ waits_for d n → Waits s x o d n
+  pub begins : (d : Direction) → o.command ≡ Some d → Begun x d
 
 -- tests joined
 not_both : (u v a b c : Bool) → u ≡ true → v ≡ false → (u && not a && not b || v && not a && not c) ≡ true → (a ≡ false) × (b ≡ false)
@@ -72,8 +71,11 @@ module _ (s : List ℕ) (x : Situation) where
         begins = λ d e. absurd (let z : ◌≡◌ {A = ℕ} 0 1 = cc in omega arith);
       }
 
-  same_to : (d e : Direction) → To d ≡ To e → d ≡ e
+  same_to : (d e : Direction) → Some d ≡ Some e → d ≡ e
   same_to d e p = cc
+
+  same_wait : (v w : Wait) → Some v ≡ Some w → v ≡ w
+  same_wait v w p = cc
 
   commanded_good : (d : Direction) → Begun x d → Good (commanded_of d)
   commanded_good d b =
@@ -82,13 +84,14 @@ module _ (s : List ℕ) (x : Situation) where
         begins = λ e q. rw (← same_to d e q) b;
       }
 
-  waiting_good : (d : Direction) (n : ℕ) → x.resting ≡ true → x.automatic ≡ true → x.side ≡ To d → (x.blocks.automatic || opposed_of x.blocks d) ≡ false
-      → n < delay_of s d x.far x.repeat → Good (record { command = Neither; wait = For d n })
+  waiting_good : (d : Direction) (n : ℕ) → x.resting ≡ true → x.automatic ≡ true → x.side ≡ Some d → (x.blocks.automatic || opposed_of x.blocks d) ≡ false
+      → n < delay_of s d x.far x.repeat → Good (record { command = None; wait = waits_for d n })
   waiting_good d n r a w f l =
       record {
         waits = λ e k q.
-            let p : d ≡ e = cc in
-            let m : n ≡ k = cc in
+            let v = same_wait _ _ q in
+            let p = ap (λ (w : Wait). w.direction) v in
+            let m = ap (λ (w : Wait). w.ticks) v in
             record {
               command = refl;
               resting = r;
@@ -101,7 +104,7 @@ module _ (s : List ℕ) (x : Situation) where
         begins = λ e q. absurd (let z : ◌≡◌ {A = ℕ} 0 1 = cc in omega arith);
       }
 
-  toward_good : x.resting ≡ true → x.automatic ≡ true → (d : Direction) → x.side ≡ To d → Good (toward_of s x d)
+  toward_good : x.resting ≡ true → x.automatic ≡ true → (d : Direction) → x.side ≡ Some d → Good (toward_of s x d)
   unfolding toward_of wait_on_of
   toward_good r a d w =
       chosen Good _ _ _ (λ p. idle_good)
@@ -110,19 +113,19 @@ module _ (s : List ℕ) (x : Situation) where
       (λ q. commanded_good d (record { resting = r; mode = sym (yes _ _ _ _ a (sym (or_left _ _ p))); direction = or_right x.blocks.automatic _ p }))
       (λ q. waiting_good d _ r a w p (leb-false _ _ q)))
 
-  sided_good : x.resting ≡ true → x.automatic ≡ true → (w : Way) → x.side ≡ w → Good (sided_of s x w)
+  sided_good : x.resting ≡ true → x.automatic ≡ true → (w : Option Direction) → x.side ≡ w → Good (sided_of s x w)
   unfolding sided_of
-  sided_good r a Neither e = idle_good
-  sided_good r a (To d) e = toward_good r a d e
+  sided_good r a None e = idle_good
+  sided_good r a (Some d) e = toward_good r a d e
 
-  pressed_good : x.resting ≡ true → x.automatic ≡ false → (w : Way)
+  pressed_good : x.resting ≡ true → x.automatic ≡ false → (w : Option Direction)
       → (raises w && not x.blocks.manual && not x.blocks.raise || lowers w && not x.blocks.manual && not x.blocks.lower) ≡ true
-      → Good (record { command = w; wait = Idle })
-  pressed_good r a Neither p = let z : ◌≡◌ {A = Bool} false true = p in idle_good
-  pressed_good r a (To Raise) p =
+      → Good (record { command = w; wait = None })
+  pressed_good r a None p = let z : ◌≡◌ {A = Bool} false true = p in idle_good
+  pressed_good r a (Some Raise) p =
       let b = not_both true false _ _ x.blocks.lower refl refl p in
       commanded_good Raise (record { resting = r; mode = sym (no _ _ _ _ a (sym b.0)); direction = b.1 })
-  pressed_good r a (To Lower) p =
+  pressed_good r a (Some Lower) p =
       let b = other_not false true _ x.blocks.raise _ refl refl p in
       commanded_good Lower (record { resting = r; mode = sym (no _ _ _ _ a (sym b.0)); direction = b.1 })
 
@@ -138,7 +141,7 @@ module _ (s : List ℕ) (x : Situation) where
       (λ r. idle_good)
 
   -- an unblocked deviation in automatic mode, the drive at rest: one tick more of the wait
-  pub decided_waits : (d : Direction) → x.resting ≡ true → x.automatic ≡ true → x.side ≡ To d → x.blocks.automatic ≡ false → opposed_of x.blocks d ≡ false
+  pub decided_waits : (d : Direction) → x.resting ≡ true → x.automatic ≡ true → x.side ≡ Some d → x.blocks.automatic ≡ false → opposed_of x.blocks d ≡ false
       → wait_on_of d (waited_of d x.wait) (delay_of s d x.far x.repeat) ≡ decided_of s x
   unfolding decided_of sided_of toward_of
   decided_waits d r a w f g =

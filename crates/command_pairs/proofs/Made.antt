@@ -4,18 +4,18 @@ use mathlib.Core.Path.{◌≡◌}
 use mathlib.Core.Bool.{Bool}
 use Rattle.common.specs.Choice.{choose}
 use Rattle.common.proofs.Cases.{cases}
-use Rattle.ways.specs.declared.Way.{Way}
-use Rattle.ways.specs.declared.Way.TheVariants.{Neither}
+use Rattle.std.specs.Prelude.{Option, None}
+use Rattle.ways.specs.declared.Direction.{Direction}
 use Rattle.keys.specs.declared.Buttons.{Buttons}
 use Rattle.keys.specs.declared.Keys.{Keys}
-use Rattle.command_pairs.specs.declared.Heard.{Heard}
+use Rattle.command.specs.declared.Heard.{Heard}
 use Rattle.command_pairs.specs.Pairs.{pair_of, changed_of, heard_of}
 
 -- the mode's pair of buttons
-pub heard_made : (now before : Keys) (press : Way) {buttons held : Buttons} {changed : Bool} {still : Way} → buttons ≡ pair_of now.remote now
+pub heard_made : (now before : Keys) (press : Option Direction) {buttons held : Buttons} {changed : Bool} {still : Option Direction} → buttons ≡ pair_of now.remote now
     → held ≡ pair_of now.remote before
     → changed ≡ changed_of now before
-    → still ≡ choose changed Neither press
+    → still ≡ choose changed None press
     → ◌≡◌ {A = Heard} (record { buttons = buttons; before = held; remembered = still }) (heard_of now before press)
 unfolding heard_of
 heard_made now before press p q r s = rw (p, q, s, r)

@@ -1,11 +1,10 @@
 -- Panel and dispatcher (02, ticket 7). Definitions only.
-use Rattle.std.specs.Prelude.{Bool, not, ◌&&◌, ◌||◌}
+use Rattle.std.specs.Prelude.{Bool, not, ◌&&◌, ◌||◌, Option, None}
 use Rattle.common.specs.Choice.{choose}
-use Rattle.ways.specs.declared.Way.{Way}
-use Rattle.ways.specs.declared.Way.TheVariants.{Neither}
+use Rattle.ways.specs.declared.Direction.{Direction}
 use Rattle.keys.specs.declared.Buttons.{Buttons}
 use Rattle.keys.specs.declared.Keys.{Keys}
-use Rattle.command_pairs.specs.declared.Heard.{Heard}
+use Rattle.command.specs.declared.Heard.{Heard}
 
 -- the pair of a mode: "bit 21 chooses remote mode, bits 22 and 23 are the dispatcher's raise and lower. Bits 19 and 20 act only in local
 -- mode"
@@ -19,10 +18,10 @@ changed_of now before = now.remote && not before.remote || before.remote && not 
 -- "all that used the one pair uses the pair of its mode": that of this tick's mode. "Each pair remembers its own previous tick in both
 -- modes", so its buttons before are its own, whatever the mode was then. "A change of mode drops a remembered press": one that was
 -- remembered before this tick. A press on this very tick is made in its mode.
-unfoldable pub heard_of : Keys → Keys → Way → Heard
+unfoldable pub heard_of : Keys → Keys → Option Direction → Heard
 heard_of now before press =
     record {
       buttons = pair_of now.remote now;
       before = pair_of now.remote before;
-      remembered = choose (changed_of now before) Neither press;
+      remembered = choose (changed_of now before) None press;
     }

@@ -7,7 +7,7 @@ use ways::Direction;
 // A command is asked until the switching contact closes, and moving until it opens again; without the contact it is asked, and
 // held, until it ends. `age` counts the ticks after the command's first, `automatic` is the mode in which it began, `length`
 // the ticks that the contact has been closed. An own move is one that no command began.
-#[derive(Clone, Copy)]
+#[derive(Clone, Copy, PartialEq, Eq)]
 pub enum Drive {
     Resting,
     Asked {

@@ -13,8 +13,7 @@ use Rattle.ways.specs.declared.Direction.{Direction}
 use Rattle.drive.specs.declared.Drive.{Drive}
 use Rattle.drive.specs.declared.Drive.TheVariants.{Resting, Asked, Moving}
 use Rattle.fault.specs.declared.Fault.{Fault}
-use Rattle.ways.specs.declared.Way.{Way}
-use Rattle.ways.specs.declared.Way.TheVariants.{Neither, To}
+use Rattle.std.specs.Prelude.{Option, None, Some}
 use Rattle.drive_follow.specs.declared.Contact.{Contact}
 use Rattle.drive_follow.specs.declared.Followed.{Followed}
 
@@ -38,7 +37,7 @@ module _ (x : Contact) (four : 1 ≤ x.t4) where
   unfolding within_of
   move_good d n m p q = unmoved_good (Moving d n m) (rw (le-leb 1 n p, le-leb n x.t4 q))
 
-  ended_good : (d : Direction) (f : Fault) → Good (ended_of d f)
+  ended_good : (d : Direction) (f : Option Fault) → Good (ended_of d f)
   unfolding within_of
   ended_good d f = record { within = refl; stopped = λ p. refl }
 
@@ -46,10 +45,10 @@ module _ (x : Contact) (four : 1 ≤ x.t4) where
   unfolding within_of
   resting_good = unmoved_good Resting refl
 
-  own_good : (w : Way) → Good (own_of w)
+  own_good : (w : Option Direction) → Good (own_of w)
   unfolding own_of
-  own_good Neither = rest_good _
-  own_good (To d) = move_good d 1 false (omega arith) four
+  own_good None = rest_good _
+  own_good (Some d) = move_good d 1 false (omega arith) four
 
   supervised_good : (s : Drive) → Good (supervised_of s x)
   unfolding supervised_of rest_of asked_of moving_of within_of

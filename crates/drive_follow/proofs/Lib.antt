@@ -1,4 +1,3 @@
 pub mod Kept
 pub mod Opened
 pub mod Serving
-pub mod States

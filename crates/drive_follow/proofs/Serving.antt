@@ -12,9 +12,8 @@ use Rattle.drive_shown.specs.Shown.{on_of}
 use Rattle.ways.specs.declared.Direction.{Direction}
 use Rattle.drive.specs.declared.Drive.{Drive}
 use Rattle.drive.specs.declared.Drive.TheVariants.{Resting, Asked, Moving}
-use Rattle.fault.specs.declared.Fault.TheVariants.{NoFault, RunAway, NotStarted, Long, Fast}
-use Rattle.ways.specs.declared.Way.{Way}
-use Rattle.ways.specs.declared.Way.TheVariants.{Neither, To}
+use Rattle.fault.specs.declared.Fault.TheVariants.{RunAway, NotStarted, Long, Fast}
+use Rattle.std.specs.Prelude.{Option, None, Some}
 use Rattle.drive_follow.specs.declared.Contact.{Contact}
 use Rattle.drive_follow.specs.declared.Followed.{Followed}
 
@@ -25,21 +24,21 @@ rests_is (Moving d n m) e = let z : ◌≡◌ {A = Bool} false true = e in cc
 
 module _ (k : Contact) where
   -- from rest no command is on: an own move has none
-  own_silent : (n : ℕ) (w : Way) → on_of (own_of w).drive n ≡ Neither
+  own_silent : (n : ℕ) (w : Option Direction) → on_of (own_of w).drive n ≡ None
   unfolding own_of on_of choose
-  own_silent n Neither = refl
-  own_silent n (To d) = refl
+  own_silent n None = refl
+  own_silent n (Some d) = refl
 
-  rest_silent' : (n : ℕ) → on_of (follow_of Resting k).drive n ≡ Neither
+  rest_silent' : (n : ℕ) → on_of (follow_of Resting k).drive n ≡ None
   unfolding follow_of supervised_of rest_of on_of
   rest_silent' n =
-      chosen (λ (o : Followed). on_of o.drive n ≡ Neither) _ _ _ (λ p. refl)
+      chosen (λ (o : Followed). on_of o.drive n ≡ None) _ _ _ (λ p. refl)
       (λ p.
-      chosen (λ (o : Followed). on_of o.drive n ≡ Neither) _ _ _
-      (λ q. chosen (λ (o : Followed). on_of o.drive n ≡ Neither) _ _ _ (λ s. own_silent n k.last) (λ s. refl))
+      chosen (λ (o : Followed). on_of o.drive n ≡ None) _ _ _
+      (λ q. chosen (λ (o : Followed). on_of o.drive n ≡ None) _ _ _ (λ s. own_silent n k.last) (λ s. refl))
       (λ q. refl))
 
-  pub rest_silent : (d : Drive) (n : ℕ) → rests_of d ≡ true → on_of (follow_of d k).drive n ≡ Neither
+  pub rest_silent : (d : Drive) (n : ℕ) → rests_of d ≡ true → on_of (follow_of d k).drive n ≡ None
   rest_silent d n e = rw (rests_is d e) (rest_silent' n)
 
   -- at rest with the contact open: nothing
@@ -53,10 +52,10 @@ module _ (k : Contact) where
   supervised d l = no _ _ _ _ l refl
 
   -- a contact that closes at rest, with no fault latched, is a run-away or starts an own move
-  own_starts : (w : Way) → is_fault (own_of w).fault ≡ false → rests_of (own_of w).drive ≡ true → ⊥
+  own_starts : (w : Option Direction) → is_fault (own_of w).fault ≡ false → rests_of (own_of w).drive ≡ true → ⊥
   unfolding own_of
-  own_starts Neither f r = true≢false f
-  own_starts (To d) f r = false≢true r
+  own_starts None f r = true≢false f
+  own_starts (Some d) f r = false≢true r
 
   abbrev Stirs : Followed → Type 0
   Stirs o = is_fault o.fault ≡ false → rests_of o.drive ≡ true → ⊥
@@ -109,4 +108,4 @@ module _ (k : Contact) where
     unfolding follow_of supervised_of moving_of
     moving_open c =
         subst (λ (o : Followed). o.drive ≡ Resting) (no _ _ _ _ l (no _ _ _ _ c refl))
-        (chosen (λ (o : Followed). o.drive ≡ Resting) (m && ltb a k.t6) (ended_of e Fast) (ended_of e NoFault) (λ p. refl) (λ p. refl))
+        (chosen (λ (o : Followed). o.drive ≡ Resting) (m && ltb a k.t6) (ended_of e (Some Fast)) (ended_of e None) (λ p. refl) (λ p. refl))

@@ -1,32 +1,34 @@
 -- Rule 7 of 01: a drive with a switching contact over one tick. Definitions only.
-use Rattle.std.specs.Prelude.{ℕ, ◌+◌, Bool, true, false, not, ◌&&◌, ltb, leb}
+use Rattle.std.specs.Prelude.{ℕ, ◌+◌, Bool, true, false, not, ◌&&◌, Option, None, Some, ltb, leb}
 use Rattle.common.specs.Choice.{choose}
 use Rattle.ways.specs.declared.Direction.{Direction}
-use Rattle.ways.specs.declared.Way.{Way}
-use Rattle.ways.specs.declared.Way.TheVariants.{Neither, To}
 use Rattle.drive.specs.declared.Drive.{Drive}
 use Rattle.drive.specs.declared.Drive.TheVariants.{Resting, Asked, Moving}
 use Rattle.fault.specs.declared.Fault.{Fault}
-use Rattle.fault.specs.declared.Fault.TheVariants.{NoFault, RunAway, NotStarted, Long, Fast}
+use Rattle.fault.specs.declared.Fault.TheVariants.{RunAway, NotStarted, Long, Fast}
 use Rattle.drive_follow.specs.declared.Contact.{Contact}
 use Rattle.drive_follow.specs.declared.Followed.{Followed}
 
 -- no fault, and no move ended
 abbrev pub unmoved_of : Drive → Followed
-unmoved_of d = record { drive = d; fault = NoFault; ended = Neither; operation = false }
+unmoved_of d = record { drive = d; fault = None; ended = None; operation = false }
 
 -- "a fault brings rest"
 abbrev pub faulty_of : Fault → Followed
-faulty_of f = record { drive = Resting; fault = f; ended = Neither; operation = false }
+faulty_of f = record { drive = Resting; fault = Some f; ended = None; operation = false }
 
 -- "an ended move, fast or not, .. adds 1 to operations"
-abbrev pub ended_of : Direction → Fault → Followed
-ended_of d f = record { drive = Resting; fault = f; ended = To d; operation = true }
+abbrev pub ended_of : Direction → Option Fault → Followed
+ended_of d f = record { drive = Resting; fault = f; ended = Some d; operation = true }
+
+-- an asked command stays, a tick older, while its age is below a limit; on the tick that reaches it something else comes
+abbrev pub stay_of : Direction → ℕ → Bool → ℕ → Followed → Followed
+stay_of d age automatic limit over = choose (ltb (age + 1) limit) (unmoved_of (Asked d (age + 1) automatic)) over
 
 -- at a sliding tap: "an own move that way starts, length 1", if there is a last direction
-unfoldable pub own_of : Way → Followed
-own_of Neither = faulty_of RunAway
-own_of (To d) = unmoved_of (Moving d 1 false)
+unfoldable pub own_of : Option Direction → Followed
+own_of None = faulty_of RunAway
+own_of (Some d) = unmoved_of (Moving d 1 false)
 
 -- "resting, contact closed, no fault: run-away, unless the tap is a sliding one and there is a last direction"
 unfoldable pub rest_of : Contact → Followed
@@ -43,7 +45,7 @@ unfoldable pub moving_of : Direction → ℕ → Bool → Contact → Followed
 moving_of d n commanded x =
     choose x.closed
     (choose (leb (n + 1) x.t4) (unmoved_of (Moving d (n + 1) commanded)) (faulty_of Long))
-    (choose (commanded && ltb n x.t6) (ended_of d Fast) (ended_of d NoFault))
+    (choose (commanded && ltb n x.t6) (ended_of d (Some Fast)) (ended_of d None))
 
 -- by what the drive was as the tick started
 unfoldable pub supervised_of : Drive → Contact → Followed

@@ -2,11 +2,11 @@
 #![tactic(auto)]
 
 ghost use Rattle.std.specs.Prelude.{◌≡◌};
-ghost use Rattle.drive_follow.specs.Follow.{unmoved_of, faulty_of, ended_of, own_of, rest_of, asked_of, moving_of, follow_of, rests_of, within_of};
+ghost use Rattle.drive_follow.specs.Follow.{unmoved_of, faulty_of, ended_of, stay_of, own_of, rest_of, asked_of, moving_of, follow_of, rests_of, within_of};
 
 use drive::Drive;
 use fault::Fault;
-use ways::{Direction, Way};
+use ways::Direction;
 
 // What rule 7 goes by. `faulty`: a fault is latched. `sliding`: the tap is a sliding one. `last`: the last direction.
 #[derive(Clone, Copy)]
@@ -15,7 +15,7 @@ pub struct Contact {
     pub closed: bool,
     pub faulty: bool,
     pub sliding: bool,
-    pub last: Way,
+    pub last: Option<Direction>,
     pub t4: u32,
     pub t5: u32,
     pub t6: u32,
@@ -25,8 +25,8 @@ pub struct Contact {
 #[derive(Clone, Copy)]
 pub struct Followed {
     pub drive: Drive,
-    pub fault: Fault,
-    pub ended: Way,
+    pub fault: Option<Fault>,
+    pub ended: Option<Direction>,
     pub operation: bool,
 }
 
@@ -35,8 +35,8 @@ pub fn unmoved(d: Drive) -> Followed
 {
     Followed {
         drive: d,
-        fault: Fault::NoFault,
-        ended: Way::Neither,
+        fault: None,
+        ended: None,
         operation: false,
     }
 }
@@ -45,31 +45,48 @@ pub fn faulty(f: Fault) -> Followed
     ensures { result ≡ faulty_of f }
 {
     Followed {
-        drive: Drive::Resting,
-        fault: f,
-        ended: Way::Neither,
-        operation: false,
+        fault: Some(f),
+        ..unmoved(Drive::Resting)
     }
 }
 
-fn ended(d: Direction, f: Fault) -> Followed
+fn ended(d: Direction, f: Option<Fault>) -> Followed
     ensures { result ≡ ended_of d f }
 {
     Followed {
-        drive: Drive::Resting,
         fault: f,
-        ended: Way::To(d),
+        ended: Some(d),
         operation: true,
+        ..unmoved(Drive::Resting)
     }
 }
 
+// An asked command stays for one tick more, unless its age then reaches the limit: `over` comes in its place.
+#[tactic(auto, using(common::proofs::Cases::cases))]
+pub fn stay_asked(d: Direction, age: u32, automatic: bool, limit: u32, over: Followed) -> Followed
+    ensures { result ≡ stay_of d age automatic limit over }
+{
+    if age < limit {
+        let next = age + 1;
+        if next < limit {
+            return unmoved(Drive::Asked {
+                direction: d,
+                age: next,
+                automatic,
+            });
+        }
+    }
+    over
+}
+
 // The contact has closed by itself at a sliding tap.
-fn own_move(last: Way) -> Followed
+#[tactic(auto, unfolding(crate::specs::Follow::own_of))]
+fn own_move(last: Option<Direction>) -> Followed
     ensures { result ≡ own_of last }
 {
     match last {
-        Way::Neither => faulty(Fault::RunAway),
-        Way::To(d) => unmoved(Drive::Moving {
+        None => faulty(Fault::RunAway),
+        Some(d) => unmoved(Drive::Moving {
             direction: d,
             length: 1,
             commanded: false,
@@ -77,13 +94,13 @@ fn own_move(last: Way) -> Followed
     }
 }
 
+#[tactic(auto, using(common::proofs::Cases::cases), unfolding(crate::specs::Follow::rest_of))]
 fn from_rest(x: Contact) -> Followed
     ensures { result ≡ rest_of x }
 {
     if x.closed & !x.faulty {
         if x.sliding {
-            let last = x.last;
-            own_move(last)
+            own_move(x.last)
         } else {
             faulty(Fault::RunAway)
         }
@@ -92,32 +109,22 @@ fn from_rest(x: Contact) -> Followed
     }
 }
 
+#[tactic(auto, using(common::proofs::Cases::cases), unfolding(crate::specs::Follow::asked_of))]
 fn from_asked(d: Direction, age: u32, automatic: bool, x: Contact) -> Followed
     ensures { result ≡ asked_of d age automatic x }
 {
     if x.closed {
-        return unmoved(Drive::Moving {
+        unmoved(Drive::Moving {
             direction: d,
             length: 1,
             commanded: true,
-        });
-    }
-    if age < x.t5 {
-        let next = age + 1;
-        if next < x.t5 {
-            unmoved(Drive::Asked {
-                direction: d,
-                age: next,
-                automatic: automatic,
-            })
-        } else {
-            faulty(Fault::NotStarted)
-        }
+        })
     } else {
-        faulty(Fault::NotStarted)
+        stay_asked(d, age, automatic, x.t5, faulty(Fault::NotStarted))
     }
 }
 
+#[tactic(auto, using(common::proofs::Cases::cases), unfolding(crate::specs::Follow::moving_of))]
 fn from_moving(d: Direction, length: u32, commanded: bool, x: Contact) -> Followed
     ensures { result ≡ moving_of d length commanded x }
 {
@@ -126,21 +133,20 @@ fn from_moving(d: Direction, length: u32, commanded: bool, x: Contact) -> Follow
             unmoved(Drive::Moving {
                 direction: d,
                 length: length + 1,
-                commanded: commanded,
+                commanded,
             })
         } else {
             faulty(Fault::Long)
         }
+    } else if commanded & (length < x.t6) {
+        ended(d, Some(Fault::Fast))
     } else {
-        if commanded & (length < x.t6) {
-            ended(d, Fault::Fast)
-        } else {
-            ended(d, Fault::NoFault)
-        }
+        ended(d, None)
     }
 }
 
 // Rule 7.
+#[tactic(auto, using(common::proofs::Cases::cases), unfolding(crate::specs::Follow::follow_of, crate::specs::Follow::supervised_of))]
 pub fn follow(d: Drive, x: Contact) -> Followed
     ensures { result ≡ follow_of d x }
 {
@@ -166,36 +172,17 @@ pub fn follow(d: Drive, x: Contact) -> Followed
 pub fn rests(d: Drive) -> bool
     ensures { result ≡ rests_of d }
 {
-    match d {
-        Drive::Resting => true,
-        Drive::Asked {
-            direction: _,
-            age: _,
-            automatic: _,
-        } => false,
-        Drive::Moving {
-            direction: _,
-            length: _,
-            commanded: _,
-        } => false,
-    }
+    d == Drive::Resting
 }
 
 // The limits of a record for a drive with a switching contact.
+#[tactic(auto, using(common::proofs::Cases::cases), unfolding(crate::specs::Follow::within_of))]
 pub fn within(d: Drive, t4: u32, t5: u32) -> bool
     ensures { result ≡ within_of d t4 t5 }
 {
     match d {
         Drive::Resting => true,
-        Drive::Asked {
-            direction: _,
-            age,
-            automatic: _,
-        } => age < t5,
-        Drive::Moving {
-            direction: _,
-            length,
-            commanded: _,
-        } => (1 <= length) & (length <= t4),
+        Drive::Asked { age, .. } => age < t5,
+        Drive::Moving { length, .. } => (1 <= length) & (length <= t4),
     }
 }

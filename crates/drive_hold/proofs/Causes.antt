@@ -7,7 +7,7 @@ use Prim.Native.Nat.{ℕ}
 use Rattle.common.proofs.Cases.{yes, no}
 use Rattle.common.proofs.Joined.{or_true}
 use Rattle.ways.specs.declared.Direction.{Direction}
-use Rattle.ways.specs.declared.Way.TheVariants.{To}
+use Rattle.std.specs.Prelude.{Some}
 use Rattle.ways.specs.Ways.{other_of}
 use Rattle.blocks.specs.Blocked.{opposed_of}
 use Rattle.drive.specs.declared.Drive.TheVariants.{Asked}
@@ -26,12 +26,12 @@ module _ (d : Direction) (age : ℕ) (x : Holding) (attended : x.local ≡ false
   unfolding ends_of
   ends_in_band e = so (rw e refl)
 
-  pub ends_on_the_other_side : other_of x.side (To d) ≡ true → Ends
+  pub ends_on_the_other_side : other_of x.side (Some d) ≡ true → Ends
   unfolding ends_of
   ends_on_the_other_side e = so (rw (e, or_true x.in_band) refl)
 
   abbrev off : Bool
-  off = x.in_band || other_of x.side (To d)
+  off = x.in_band || other_of x.side (Some d)
 
   pub ends_in_manual : x.automatic ≡ false → Ends
   unfolding ends_of

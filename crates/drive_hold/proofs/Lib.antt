@@ -2,4 +2,3 @@ pub mod Causes
 pub mod Facts
 pub mod Kept
 pub mod Opened
-pub mod States

@@ -1,11 +1,10 @@
 -- 02, ticket 2: a drive without a switching contact over one tick. Definitions only.
-use Rattle.std.specs.Prelude.{ℕ, ◌+◌, Bool, true, false, not, ◌||◌, ltb}
+use Rattle.std.specs.Prelude.{ℕ, ◌+◌, Bool, true, false, not, ◌||◌, ltb, None, Some}
 use Rattle.common.specs.Choice.{choose}
 use Rattle.ways.specs.declared.Direction.{Direction}
-use Rattle.ways.specs.declared.Way.TheVariants.{Neither, To}
 use Rattle.ways.specs.Ways.{other_of}
 use Rattle.blocks.specs.Blocked.{opposed_of}
-use Rattle.fault.specs.declared.Fault.TheVariants.{NoFault, Long}
+use Rattle.fault.specs.declared.Fault.TheVariants.{Long}
 use Rattle.drive.specs.declared.Drive.{Drive}
 use Rattle.drive.specs.declared.Drive.TheVariants.{Resting, Asked, Moving}
 use Rattle.drive_follow.specs.declared.Followed.{Followed}
@@ -14,11 +13,11 @@ use Rattle.drive_follow.specs.Follow.{unmoved_of, faulty_of}
 
 -- "each command counts as one operation when it ends without a fault, local drive or out"; no move has ended
 abbrev pub released_of : Followed
-released_of = record { drive = Resting; fault = NoFault; ended = Neither; operation = true }
+released_of = record { drive = Resting; fault = None; ended = None; operation = true }
 
 -- a tick that is "in band, on the other side, manual or blocked for it", a command of this direction: its mode or its direction
 unfoldable pub ends_of : Direction → Holding → Bool
-ends_of d x = x.in_band || other_of x.side (To d) || not x.automatic || (x.blocks.automatic || opposed_of x.blocks d)
+ends_of d x = x.in_band || other_of x.side (Some d) || not x.automatic || (x.blocks.automatic || opposed_of x.blocks d)
 
 -- "an automatic command stays until the first tick that is [so]; on the T4th tick after its first, if none came, that tick included ..,
 -- it ends as 'long'"

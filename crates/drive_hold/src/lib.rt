@@ -8,7 +8,7 @@ use blocks::Blocks;
 use drive::Drive;
 use drive_follow::Followed;
 use fault::Fault;
-use ways::{Direction, Way};
+use ways::Direction;
 
 // What a held command goes by. `automatic`: the mode. `side`: the command that the deviation asks for. `blocks`: what the tick
 // blocks, a fault that arises on it left aside.
@@ -17,7 +17,7 @@ pub struct Holding {
     pub local: bool,
     pub automatic: bool,
     pub in_band: bool,
-    pub side: Way,
+    pub side: Option<Direction>,
     pub blocks: Blocks,
     pub t4: u32,
 }
@@ -27,68 +27,41 @@ fn released() -> Followed
     ensures { result ≡ released_of }
 {
     Followed {
-        drive: Drive::Resting,
-        fault: Fault::NoFault,
-        ended: Way::Neither,
         operation: true,
+        ..drive_follow::unmoved(Drive::Resting)
     }
 }
 
 // Whether the tick ends an automatic command of this direction: in band, on the other side, manual, or blocked for it.
+#[tactic(auto, unfolding(crate::specs::Hold::ends_of))]
 fn ends(d: Direction, x: Holding) -> bool
     ensures { result ≡ ends_of d x }
 {
-    let b = x.blocks;
-    let side = x.side;
-    let opposed = blocks::opposes(b, d);
-    let other = ways::opposite(side, Way::To(d));
-    x.in_band | other | !x.automatic | (b.automatic | opposed)
+    let blocked = x.blocks.automatic | blocks::opposes(x.blocks, d);
+    x.in_band | ways::opposite(x.side, Some(d)) | !x.automatic | blocked
 }
 
 // An automatic command stays until a tick ends it; on the T4th tick after its first it ends as 'long'.
+#[tactic(auto, using(common::proofs::Cases::cases), unfolding(crate::specs::Hold::automatic_of))]
 fn hold_automatic(d: Direction, age: u32, x: Holding) -> Followed
     ensures { result ≡ automatic_of d age x }
 {
     if ends(d, x) {
-        return released();
-    }
-    if age < x.t4 {
-        let next = age + 1;
-        if next < x.t4 {
-            drive_follow::unmoved(Drive::Asked {
-                direction: d,
-                age: next,
-                automatic: true,
-            })
-        } else {
-            drive_follow::faulty(Fault::Long)
-        }
+        released()
     } else {
-        drive_follow::faulty(Fault::Long)
+        drive_follow::stay_asked(d, age, true, x.t4, drive_follow::faulty(Fault::Long))
     }
 }
 
 // A manual command stays for T4 ticks.
+#[tactic(auto, using(common::proofs::Cases::cases), unfolding(crate::specs::Hold::manual_of))]
 fn hold_manual(d: Direction, age: u32, x: Holding) -> Followed
     ensures { result ≡ manual_of d age x }
 {
-    let t4 = x.t4;
-    if age < t4 {
-        let older = age + 1;
-        if older < t4 {
-            drive_follow::unmoved(Drive::Asked {
-                direction: d,
-                age: older,
-                automatic: false,
-            })
-        } else {
-            released()
-        }
-    } else {
-        released()
-    }
+    drive_follow::stay_asked(d, age, false, x.t4, released())
 }
 
+#[tactic(auto, using(common::proofs::Cases::cases))]
 fn hold_command(d: Direction, age: u32, automatic: bool, x: Holding) -> Followed
     ensures { result ≡ held_of d age automatic x }
 {
@@ -100,6 +73,7 @@ fn hold_command(d: Direction, age: u32, automatic: bool, x: Holding) -> Followed
 }
 
 // The drive after the tick. No accepted record of such a drive has a move.
+#[tactic(auto, using(common::proofs::Cases::cases), unfolding(crate::specs::Hold::hold_of, crate::specs::Hold::held_from))]
 pub fn hold(d: Drive, x: Holding) -> Followed
     ensures { result ≡ hold_of d x }
 {
@@ -107,35 +81,23 @@ pub fn hold(d: Drive, x: Holding) -> Followed
         return drive_follow::unmoved(Drive::Resting);
     }
     match d {
-        Drive::Resting => drive_follow::unmoved(Drive::Resting),
         Drive::Asked {
             direction,
             age,
             automatic,
         } => hold_command(direction, age, automatic, x),
-        Drive::Moving {
-            direction: _,
-            length: _,
-            commanded: _,
-        } => drive_follow::unmoved(Drive::Resting),
+        Drive::Resting | Drive::Moving { .. } => drive_follow::unmoved(Drive::Resting),
     }
 }
 
-// The limits of a record for a drive without a switching contact.
+// The limits of a record for a drive without a switching contact: a rule of its own, without moves.
+#[tactic(auto, using(common::proofs::Cases::cases), unfolding(crate::specs::Hold::within_of))]
 pub fn within(d: Drive, t4: u32) -> bool
     ensures { result ≡ within_of d t4 }
 {
     match d {
         Drive::Resting => true,
-        Drive::Asked {
-            direction: _,
-            age,
-            automatic: _,
-        } => age < t4,
-        Drive::Moving {
-            direction: _,
-            length: _,
-            commanded: _,
-        } => false,
+        Drive::Asked { age, .. } => age < t4,
+        Drive::Moving { .. } => false,
     }
 }

@@ -8,7 +8,7 @@ use std::fs::File;
 use std::io::Read;
 use std::rt::Files;
 
-// How many bytes came, and whether a read failed after them.
+// How many bytes came, and whether a read failed after them. Both count at once: the bytes that came before a failure are used too.
 #[derive(Clone, Copy)]
 pub struct Filled {
     pub got: usize,
@@ -19,24 +19,15 @@ pub struct Filled {
 pub fn fill<F: Read>(file: &mut F, buffer: &mut [u8]) -> Filled
     ensures { IsPrefixLen result.got buffer.new }
 {
-    let mut done: usize = 0;
-    while done < buffer.len() {
-        let (more, failed) = match file.read(&mut buffer[done..]) {
-            Ok(more) => (more, false),
-            Err(_) => (0, true),
-        };
-        if more == 0 {
-            return Filled {
-                got: done,
-                failed: failed,
-            };
+    let mut got: usize = 0;
+    while got < buffer.len() {
+        match file.read(&mut buffer[got..]) {
+            Ok(0) => return Filled { got, failed: false },
+            Ok(more) => got += more,
+            Err(_) => return Filled { got, failed: true },
         }
-        done += more;
     }
-    Filled {
-        got: done,
-        failed: false,
-    }
+    Filled { got, failed: false }
 }
 
 // The file of this name, to be read. The library takes no name that is not UTF-8, so such a file is none.
@@ -52,10 +43,7 @@ pub fn read_file<R: Files>(rt: &R, path: &[u8], buffer: &mut [u8]) -> Filled
     ensures { IsPrefixLen result.got buffer.new }
 {
     match open(rt, path) {
-        Some(file) => {
-            let mut file = file;
-            fill(&mut file, buffer)
-        }
+        Some(mut file) => fill(&mut file, buffer),
         None => Filled {
             got: 0,
             failed: true,

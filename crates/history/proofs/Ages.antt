@@ -13,6 +13,7 @@ use Rattle.common.proofs.Cases.{yes, no, chosen}
 use Rattle.common.proofs.Joined.{split, and_left, and_right, or_is}
 use Rattle.slots.specs.Slots.{slot, t8}
 use Rattle.fault.specs.declared.Fault.{Fault}
+use Rattle.std.specs.Prelude.{Option}
 use Rattle.fault.specs.declared.Latch.{Latch}
 use Rattle.fault.specs.Latches.{is_fault, reset_of, age_of, latched_of}
 use Rattle.drive_follow.specs.declared.Followed.{Followed}
@@ -40,7 +41,7 @@ abbrev age_in : Regulator → ℕ
 age_in r = r.state.latch.age
 
 -- an age that goes on, and one that begins
-older : (f : Fault) (n t : ℕ) → is_fault f ≡ true → n ≤ t → age_of f n t ≡ min (n + 1) t
+older : (f : Option Fault) (n t : ℕ) → is_fault f ≡ true → n ≤ t → age_of f n t ≡ min (n + 1) t
 unfolding age_of
 older f n t e h =
     sym (yes _ _ _ _ e refl)
@@ -88,13 +89,13 @@ module _ (rest : Bool) (r : Regulator) (i : Input) (h : within_of r ≡ true) (o
       (λ e. e) (split (is_fault r.state.latch.fault))))
       (split (contacts_at i).reset)
 
-  pub arises_young : (f : Fault) → is_fault f ≡ true → p.arose ≡ f → (next_at r i).state.latch.fault ≡ f → age_in (next_at r i) ≡ min 1 (slot r.settings t8)
+  pub arises_young : (f : Option Fault) → is_fault f ≡ true → p.arose ≡ f → (next_at r i).state.latch.fault ≡ f → age_in (next_at r i) ≡ min 1 (slot r.settings t8)
   arises_young f e a n =
       age_is
       ∙ ap (λ (k : ℕ). age_of (next_at r i).state.latch.fault k (slot r.settings t8)) (none_before (ap is_fault a ∙ e))
       ∙ older (next_at r i).state.latch.fault 0 (slot r.settings t8) (ap is_fault n ∙ e) (omega arith)
 
-  pub lasts_older : (f : Fault) → is_fault f ≡ true → (contacts_at i).reset ≡ false → (next_at r i).state.latch.fault ≡ f
+  pub lasts_older : (f : Option Fault) → is_fault f ≡ true → (contacts_at i).reset ≡ false → (next_at r i).state.latch.fault ≡ f
       → age_in (next_at r i) ≡ min (age_in r + 1) (slot r.settings t8)
   unfolding cleared_of reset_of
   lasts_older f e q n =
@@ -102,7 +103,7 @@ module _ (rest : Bool) (r : Regulator) (i : Input) (h : within_of r ≡ true) (o
       ∙ ap (λ (l : Latch). age_of (next_at r i).state.latch.fault l.age (slot r.settings t8)) (sym (no _ _ _ _ q refl))
       ∙ older (next_at r i).state.latch.fault (age_in r) (slot r.settings t8) (ap is_fault n ∙ e) (age_most r h)
 
-module _ (f : Fault) (is-fault : is_fault f ≡ true) (s : List ℕ) where
+module _ (f : Option Fault) (is-fault : is_fault f ≡ true) (s : List ℕ) where
   abbrev Kept : List Past → Type 0
   Kept since = Each (λ (q : Past). Accepted q.tick → ArisesNone q) since
 
@@ -142,7 +143,7 @@ module _ (f : Fault) (is-fault : is_fault f ≡ true) (s : List ℕ) where
       length_of a is = runs.length_run left_by past_on a is
 
 -- the fault arose on the tick t of the list, and lasted through `since`
-pub ages : (f : Fault) → is_fault f ≡ true → (r : Regulator) (is : List Input) → within_of r ≡ true → (before : List Past) (t : Past) (since : List Past)
+pub ages : (f : Option Fault) → is_fault f ≡ true → (r : Regulator) (is : List Input) → within_of r ≡ true → (before : List Past) (t : Past) (since : List Past)
     → pasts_from r is ≡ before ++ (t ∷ since) → Arises f t → Each (λ (q : Past). Accepted q.tick → ArisesNone q) since
     → age_in (after_of left_by (starts_on r) is).got ≡ min (1 + length since) (slot r.settings t8)
 ages f e r is h before t since w z k = ages_from f e r.settings (starts_on r) is h refl before t since w z k

@@ -12,12 +12,12 @@ use Rattle.common.proofs.Joined.{split, or_left, or_right, and_false}
 use Rattle.slots.specs.Slots.{slot, t1, t2, t3, is_continuous}
 use Rattle.ways.specs.declared.Direction.{Direction}
 use Rattle.ways.specs.declared.Direction.TheVariants.{Raise, Lower}
-use Rattle.ways.specs.declared.Way.{Way}
-use Rattle.ways.specs.declared.Way.TheVariants.{Neither, To}
+use Rattle.std.specs.Prelude.{Option}
+use Rattle.std.specs.Prelude.{None, Some}
 use Rattle.ways.specs.Ways.{lowers, is_to, other_of, newer_of}
-use Rattle.ways.proofs.Cases.{is_to_self, is_to_is, is_to_neither}
+use Rattle.ways.proofs.Cases.{is_to_self, is_to_is, is_to_none}
 use Rattle.busbar_level.specs.declared.Level.{Level}
-use Rattle.busbar_level.specs.declared.Level.TheVariants.{Missing, Low, InBand, High}
+use Rattle.busbar_level.specs.declared.Level.TheVariants.{Low, InBand, High}
 use Rattle.busbar_level.specs.Levels.{side_of, is_in_band}
 use Rattle.input.specs.declared.Input.{Input}
 use Rattle.command_automatic.specs.Automatic.{delay_of, kept_of, repeat_of}
@@ -40,62 +40,62 @@ use Rattle.history.proofs.Steps.{Along, along, stepped, begins_ran, decided_begi
 
 -- ---- the field's step, and the level
 
-is_way_lem : (d : Direction) (w : Way) → is_to d w ≡ true → w ≡ To d
-is_way_lem d Neither e = absurd (false≢true (sym (is_to_neither d) ∙ e))
-is_way_lem d (To e) p = ap To (is_to_is d e p)
+is_way_lem : (d : Direction) (w : Option Direction) → is_to d w ≡ true → w ≡ Some d
+is_way_lem d None e = absurd (false≢true (sym (is_to_none d) ∙ e))
+is_way_lem d (Some e) p = ap Some (is_to_is d e p)
 
 -- the side is kept, or newly set
-pub record Stays (d : Direction) (in_band : Bool) (side command old : Way) : Type 0 where
-  pub none : command ≡ Neither
+pub record Stays (d : Direction) (in_band : Bool) (side command old : Option Direction) : Type 0 where
+  pub none : command ≡ None
   pub same : is_to d old ≡ true
   pub not_in_band : in_band ≡ false
   pub not_other : other_of side old ≡ false
 
-still : (d : Direction) (in_band : Bool) (side old : Way) → is_to d (choose (in_band || other_of side old) Neither old) ≡ true → Stays d in_band side Neither old
+still : (d : Direction) (in_band : Bool) (side old : Option Direction) → is_to d (choose (in_band || other_of side old) None old) ≡ true → Stays d in_band side None old
 still d in_band side old e =
-    ⊎_elim (λ p. absurd (false≢true (sym (is_to_neither d) ∙ ap (is_to d) (yes _ _ _ _ p refl) ∙ e)))
+    ⊎_elim (λ p. absurd (false≢true (sym (is_to_none d) ∙ ap (is_to d) (yes _ _ _ _ p refl) ∙ e)))
     (λ p. record { none = refl; same = ap (is_to d) (no _ _ _ _ p refl) ∙ e; not_in_band = or_left _ _ p; not_other = or_right in_band _ p })
     (split (in_band || other_of side old))
 
-repeat_by : (d : Direction) (automatic in_band : Bool) (side command old : Way) → is_to d (repeat_of automatic in_band side command old) ≡ true
-    → (automatic ≡ true) × ((command ≡ To d) ⊎ Stays d in_band side command old)
+repeat_by : (d : Direction) (automatic in_band : Bool) (side command old : Option Direction) → is_to d (repeat_of automatic in_band side command old) ≡ true
+    → (automatic ≡ true) × ((command ≡ Some d) ⊎ Stays d in_band side command old)
 unfolding repeat_of kept_of newer_of choose
-repeat_by d false in_band side command old e = absurd (false≢true (sym (is_to_neither d) ∙ e))
-repeat_by d true in_band side (To f) old e = (refl, inl (ap To (is_to_is d f e)))
-repeat_by d true in_band side Neither old e = (refl, inr (still d in_band side old e))
+repeat_by d false in_band side command old e = absurd (false≢true (sym (is_to_none d) ∙ e))
+repeat_by d true in_band side (Some f) old e = (refl, inl (ap Some (is_to_is d f e)))
+repeat_by d true in_band side None old e = (refl, inr (still d in_band side old e))
 
-repeat_set : (d : Direction) (in_band : Bool) (side command old : Way) → command ≡ To d → is_to d (repeat_of true in_band side command old) ≡ true
+repeat_set : (d : Direction) (in_band : Bool) (side command old : Option Direction) → command ≡ Some d → is_to d (repeat_of true in_band side command old) ≡ true
 unfolding repeat_of newer_of choose
 repeat_set d in_band side command old e = rw e (is_to_self d)
 
-repeat_kept : (d : Direction) (in_band : Bool) (side command old : Way) → Stays d in_band side command old → is_to d (repeat_of true in_band side command old) ≡ true
+repeat_kept : (d : Direction) (in_band : Bool) (side command old : Option Direction) → Stays d in_band side command old → is_to d (repeat_of true in_band side command old) ≡ true
 unfolding repeat_of kept_of newer_of
 repeat_kept d in_band side command old k =
     rw k.none
-    (ap (is_to d) (sym (yes (choose (in_band || other_of side old) Neither old) _ _ true refl refl) ∙ sym (no old Neither old _ (rw k.not_in_band k.not_other) refl))
+    (ap (is_to d) (sym (yes (choose (in_band || other_of side old) None old) _ _ true refl refl) ∙ sym (no old None old _ (rw k.not_in_band k.not_other) refl))
     ∙ k.same)
 
-not_band : (l : Level) → (l ≡ InBand → ⊥) → is_in_band l ≡ false
-not_band Missing n = refl
-not_band Low n = refl
-not_band InBand n = absurd (n refl)
-not_band High n = refl
+not_band : (l : Option Level) → (l ≡ Some InBand → ⊥) → is_in_band l ≡ false
+not_band None n = refl
+not_band (Some Low) n = refl
+not_band (Some InBand) n = absurd (n refl)
+not_band (Some High) n = refl
 
-other_is : (d : Direction) → other_of (side_of (other_side d)) (To d) ≡ true
+other_is : (d : Direction) → other_of (side_of (other_side d)) (Some d) ≡ true
 unfolding side_of
 other_is Raise = refl
 other_is Lower = refl
 
-not_other_lem : (d : Direction) (l : Level) → (l ≡ other_side d → ⊥) → other_of (side_of l) (To d) ≡ false
+not_other_lem : (d : Direction) (l : Option Level) → (l ≡ other_side d → ⊥) → other_of (side_of l) (Some d) ≡ false
 unfolding side_of
-not_other_lem Raise Missing n = refl
-not_other_lem Raise Low n = refl
-not_other_lem Raise InBand n = refl
-not_other_lem Raise High n = absurd (n refl)
-not_other_lem Lower Missing n = refl
-not_other_lem Lower Low n = absurd (n refl)
-not_other_lem Lower InBand n = refl
-not_other_lem Lower High n = refl
+not_other_lem Raise None n = refl
+not_other_lem Raise (Some Low) n = refl
+not_other_lem Raise (Some InBand) n = refl
+not_other_lem Raise (Some High) n = absurd (n refl)
+not_other_lem Lower None n = refl
+not_other_lem Lower (Some Low) n = absurd (n refl)
+not_other_lem Lower (Some InBand) n = refl
+not_other_lem Lower (Some High) n = refl
 
 -- ---- T2's memory over a tick
 
@@ -106,7 +106,7 @@ module _ (d : Direction) (rest : Bool) (r : Regulator) (i : Input) (k : Linked r
   abbrev p : Past
   p = past_on (record { rest = rest; got = r }) i
 
-  abbrev old : Way
+  abbrev old : Option Direction
   old = r.state.memory.repeat
 
   module _ (h : within_of r ≡ true) (o : is_out r (contacts_at i) ≡ false) where
@@ -116,7 +116,7 @@ module _ (d : Direction) (rest : Bool) (r : Regulator) (i : Input) (k : Linked r
           not_in_band = λ e. true≢false (sym (ap is_in_band e) ∙ q.not_in_band);
           not_other = λ e.
               true≢false
-              (sym (other_is d) ∙ ap (λ (l : Level). other_of (side_of l) (To d)) (sym e) ∙ ap (other_of (side_of p.level)) (sym (is_way_lem d old q.same)) ∙ q.not_other);
+              (sym (other_is d) ∙ ap (λ (l : Option Level). other_of (side_of l) (Some d)) (sym e) ∙ ap (other_of (side_of p.level)) (sym (is_way_lem d old q.same)) ∙ q.not_other);
           not_manual = a;
           no_command = none_begins rest r i k q.none;
           not_out = not_told r i rest o;
@@ -144,7 +144,7 @@ module _ (d : Direction) (rest : Bool) (r : Regulator) (i : Input) (k : Linked r
 
   fresh_none : RepeatIs d (fresh_of r.settings) → ⊥
   unfolding fresh_of
-  fresh_none e = false≢true (sym (is_to_neither d) ∙ e)
+  fresh_none e = false≢true (sym (is_to_none d) ∙ e)
 
   repeat_step : RepeatIs d (left_by (record { rest = rest; got = r }) i).got ↔ (Commands d p ⊎ (RepeatIs d r × (Accepted p.tick → Lasts d p)))
   repeat_step =
@@ -153,24 +153,24 @@ module _ (d : Direction) (rest : Bool) (r : Regulator) (i : Input) (k : Linked r
 
 -- ---- over every list, from a record that holds no memory of a command: T2's side is the one that the ticks say
 
-pub repeats : (d : Direction) (r : Regulator) (is : List Input) → r.state.memory.repeat ≡ Neither
+pub repeats : (d : Direction) (r : Regulator) (is : List Input) → r.state.memory.repeat ≡ None
     → RepeatIs d (after_of left_by (starts_on r) is).got ↔ Repeats d (pasts_from r is)
 repeats d r is e =
     remembers_from_none left_by past_on Along along (λ a. RepeatIs d a.got) (Commands d) (λ q. Accepted q.tick → Lasts d q)
     (λ a i k. repeat_step d a.rest a.got i k) (starts_on r) is (λ _. refl)
-    (λ b. false≢true (sym (is_to_neither d) ∙ ap (is_to d) (sym e) ∙ b))
+    (λ b. false≢true (sym (is_to_none d) ∙ ap (is_to d) (sym e) ∙ b))
 
 -- ---- and the delay in force is T3, T2 or T1 as they say
 
-not_third : (d : Direction) (far : Bool) → ((d ≡ Lower) × (far ≡ true) → ⊥) → (lowers (To d) && far) ≡ false
+not_third : (d : Direction) (far : Bool) → ((d ≡ Lower) × (far ≡ true) → ⊥) → (lowers (Some d) && far) ≡ false
 not_third Raise far n = refl
 not_third Lower true n = absurd (n (refl, refl))
 not_third Lower false n = refl
 
-is_third : (d : Direction) (far : Bool) → d ≡ Lower → far ≡ true → (lowers (To d) && far) ≡ true
+is_third : (d : Direction) (far : Bool) → d ≡ Lower → far ≡ true → (lowers (Some d) && far) ≡ true
 is_third d far p q = rw (p, q)
 
-module _ (s : List ℕ) (d : Direction) (far : Bool) (w : Way) where
+module _ (s : List ℕ) (d : Direction) (far : Bool) (w : Option Direction) where
   by_t3 : (d ≡ Lower) × (far ≡ true) → delay_of s d far w ≡ slot s t3
   unfolding delay_of
   by_t3 q = sym (yes _ _ _ _ (is_third d far q.0 q.1) refl)
@@ -202,7 +202,7 @@ module _ (d : Direction) (rest : Bool) (r : Regulator) (i : Input) (past : List 
             (⊎_elim (λ c. inl (eq-eqb _ _ c)) (λ f. inr (⊎_elim (λ e. absurd (f (k.0 e))) (λ e. e) (split (is_to d r.state.memory.repeat)))) q);
       }
 
-pub delays : (r : Regulator) (is : List Input) → r.state.memory.repeat ≡ Neither
+pub delays : (r : Regulator) (is : List Input) → r.state.memory.repeat ≡ None
     → (d : Direction) (past : List Past) (p : Past) (later : List Past) → pasts_from r is ≡ past ++ (p ∷ later) → DelayAfter d past p
 delays r is e d past p later w =
     let c = runs.cut left_by past_on (starts_on r) is past (p ∷ later) w in

@@ -50,15 +50,15 @@ module _ (r : Regulator) (i : Input) where
   -- refused: "the record left as it was"
   pub refused_next : within_of r ≡ false → next_at r i ≡ r
   unfolding tick_of refused_of
-  refused_next h = ap (λ (t : Ticked). t.next) (sym (no _ _ _ _ h refl))
+  refused_next h = ap (λ (t : Ticked Regulator). t.next) (sym (no _ _ _ _ h refl))
 
   -- out: "the record becomes the fresh one"
   pub out_next : within_of r ≡ true → is_out r (contacts_at i) ≡ true → next_at r i ≡ fresh_of r.settings
   unfolding out_of
-  out_next h o = ap (λ (t : Ticked). t.next) (out_is r i h o)
+  out_next h o = ap (λ (t : Ticked Regulator). t.next) (out_is r i h o)
 
   pub live_next : within_of r ≡ true → is_out r (contacts_at i) ≡ false → next_at r i ≡ (live_at r i).next
-  live_next h o = ap (λ (t : Ticked). t.next) (live_is r i h o)
+  live_next h o = ap (λ (t : Ticked Regulator). t.next) (live_is r i h o)
 
   module _ (rest : Bool) where
     -- out, as the tick shows it

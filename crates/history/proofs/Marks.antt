@@ -8,15 +8,18 @@ use mathlib.Core.List.{List, [], ◌∷◌}
 use mathlib.Core.Logic.{◌⊎◌, inl, inr, ⊎_elim, ◌↔◌}
 use borrow.Author.Tests.{ltb-true, ltb-false}
 use lib.Dec.{ltb}
-use Rattle.common.proofs.Cases.{yes, no}
 use Rattle.common.proofs.Joined.{split}
 use Rattle.organ.specs.declared.Organ.{Organ}
 use Rattle.organ.specs.declared.OrganInput.{OrganInput}
-use Rattle.organ.specs.Organs.{over_of, under_of, organ_of}
+use Rattle.organ.specs.declared.Side.{Side}
+use Rattle.organ.specs.declared.Side.TheVariants.{Over, Under}
+use Rattle.std.specs.Prelude.{Option, None, Some, is_some}
+use Rattle.std.specs.Option.{unwrap_or}
+use Rattle.organ.specs.Organs.{over_of, under_of, marked_of, mark_by, organ_of}
 use Rattle.organ.specs.Runs as organs
 use Rattle.organ_limits.proofs.Facts.{over_marked, over_cleared, over_kept, under_marked, under_cleared, under_kept}
 use Rattle.claim.specs.Runs.{run_of, after_of}
-use Rattle.history.specs.Memories.{Marks, Leaves, MarkedLast}
+use Rattle.history.specs.Memories.{Beyond, Returned, Marks, Leaves, MarkedLast}
 use Rattle.history.proofs.Kept.{remembers_from_none}
 
 -- what a tick brings, whatever the organ was: the list of the inputs themselves
@@ -45,77 +48,72 @@ under_placed was v l =
       keeps = λ n m. under_kept was v l (omega arith) (omega arith);
     }
 
+placed : (was : Bool) (side : Side) (v l : ℕ) → Placed was (marked_of was side v l) (Beyond side v l) (Returned side v l)
+placed was Over v l = over_placed was v l
+placed was Under v l = under_placed was v l
+
 -- decided: a value is beyond its limit or not
 beyond_or_not : (a b : ℕ) → (a < b) ⊎ (a < b → ⊥)
 beyond_or_not a b = ⊎_elim (λ p. inl (ltb-true a b p)) (λ p. inr (λ q. let z = ltb-false a b p in omega arith)) (split (ltb a b))
 
-module _ (was mark : Bool) (a b c d : ℕ) (k : Placed was mark (a < b) (c < d)) where
-  placed_forth : mark ≡ true → (a < b) ⊎ ((was ≡ true) × (c < d → ⊥))
+decided : (side : Side) (v l : ℕ) → Beyond side v l ⊎ (Beyond side v l → ⊥)
+decided Over v l = beyond_or_not l v
+decided Under v l = beyond_or_not v l
+
+module _ {was mark : Bool} {beyond returned : Type 0} (k : Placed was mark beyond returned) (d : beyond ⊎ (beyond → ⊥)) where
+  placed_forth : mark ≡ true → beyond ⊎ ((was ≡ true) × (returned → ⊥))
   placed_forth e =
       ⊎_elim (λ p. inl p)
       (λ n.
-      let m : c < d → ⊥ = λ q. true≢false (sym e ∙ k.clears q) in
+      let m : returned → ⊥ = λ q. true≢false (sym e ∙ k.clears q) in
       inr (sym (k.keeps n m) ∙ e, m))
-      (beyond_or_not a b)
+      d
 
-  placed_back : (a < b) ⊎ ((was ≡ true) × (c < d → ⊥)) → mark ≡ true
+  placed_back : beyond ⊎ ((was ≡ true) × (returned → ⊥)) → mark ≡ true
   placed_back (inl p) = k.marks p
-  placed_back (inr q) = ⊎_elim (λ p. k.marks p) (λ n. k.keeps n q.1 ∙ q.0) (beyond_or_not a b)
+  placed_back (inr q) = ⊎_elim (λ p. k.marks p) (λ n. k.keeps n q.1 ∙ q.0) d
+
+same_value : {a b : ℕ} → Some a ≡ Some b → a ≡ b
+same_value e = ap (λ (q : Option ℕ). unwrap_or q 0) e
 
 module _ (o : Organ) (x : OrganInput) where
   abbrev Steps : Type 0
   Steps = ((organ_of o x).marked ≡ true) ↔ (Marks x ⊎ ((o.marked ≡ true) × Leaves x))
 
-  dead : x.live ≡ false → Steps
+  mark_is : (v : Option ℕ) → x.value ≡ v → (organ_of o x).marked ≡ mark_by o.marked x.side v x.limit
   unfolding organ_of
-  dead n = (
-    λ e. absurd (false≢true (no _ _ _ _ n refl ∙ e)),
-    λ q. absurd (⊎_elim (λ m. true≢false (sym m.live ∙ n)) (λ m. true≢false (sym m.1.live ∙ n)) q),
+  mark_is v e = ap (λ (q : Option ℕ). mark_by o.marked x.side q x.limit) e
+
+  no_value : {n : ℕ} → x.value ≡ None → x.value ≡ Some n → ⊥
+  no_value e f = false≢true (ap (λ (q : Option ℕ). is_some q) (sym e ∙ f))
+
+  dead : x.value ≡ None → Steps
+  dead e = (
+    λ q. absurd (false≢true (sym (mark_is None e) ∙ q)),
+    λ q. absurd (⊎_elim (λ m. no_value e m.live) (λ m. no_value e m.1.live) q),
   )
 
-  module _ (l : x.live ≡ true) where
-    under_is : x.under ≡ true → (organ_of o x).marked ≡ under_of o.marked x.value x.limit
-    unfolding organ_of
-    under_is u = sym (yes _ _ _ _ l (yes _ _ _ _ u refl))
-
-    over_is : x.under ≡ false → (organ_of o x).marked ≡ over_of o.marked x.value x.limit
-    unfolding organ_of
-    over_is u = sym (yes _ _ _ _ l (no _ _ _ _ u refl))
-
-    under_steps : x.under ≡ true → Steps
-    under_steps u =
-        let k = under_placed o.marked x.value x.limit in
-        let f = placed_forth o.marked _ x.value x.limit (21 * x.limit) (20 * x.value) k in
-        let g = placed_back o.marked _ x.value x.limit (21 * x.limit) (20 * x.value) k in (
-          λ e.
-              ⊎_elim (λ p. inl (record { live = l; beyond = inr (u, p) }))
-              (λ q. inr (q.0, record { live = l; not_returned = λ b. ⊎_elim (λ c. true≢false (sym u ∙ c.0)) (λ c. q.1 c.1) b }))
-              (f (sym (under_is u) ∙ e)),
-          λ q.
-              under_is u
-              ∙ g
-              (⊎_elim (λ m. inl (⊎_elim (λ c. absurd (true≢false (sym u ∙ c.0))) (λ c. c.1) m.beyond))
-              (λ m. inr (m.0, λ b. m.1.not_returned (inr (u, b)))) q),
-        )
-
-    over_steps : x.under ≡ false → Steps
-    over_steps u =
-        let k = over_placed o.marked x.value x.limit in
-        let f = placed_forth o.marked _ x.limit x.value (20 * x.value) (19 * x.limit) k in
-        let g = placed_back o.marked _ x.limit x.value (20 * x.value) (19 * x.limit) k in (
-          λ e.
-              ⊎_elim (λ p. inl (record { live = l; beyond = inl (u, p) }))
-              (λ q. inr (q.0, record { live = l; not_returned = λ b. ⊎_elim (λ c. q.1 c.1) (λ c. true≢false (sym c.0 ∙ u)) b }))
-              (f (sym (over_is u) ∙ e)),
-          λ q.
-              over_is u
-              ∙ g
-              (⊎_elim (λ m. inl (⊎_elim (λ c. c.1) (λ c. absurd (true≢false (sym c.0 ∙ u))) m.beyond))
-              (λ m. inr (m.0, λ b. m.1.not_returned (inl (u, b)))) q),
-        )
+  live : (v : ℕ) → x.value ≡ Some v → Steps
+  live v e =
+      let k = placed o.marked x.side v x.limit in
+      let d = decided x.side v x.limit in (
+        λ q.
+            ⊎_elim (λ p. inl (record { value = v; live = e; beyond = p }))
+            (λ p. inr (p.0, record { value = v; live = e; not_returned = p.1 }))
+            (placed_forth k d (sym (mark_is (Some v) e) ∙ q)),
+        λ q.
+            mark_is (Some v) e
+            ∙ placed_back k d
+            (⊎_elim (λ m. inl (subst (λ (n : ℕ). Beyond x.side n x.limit) (same_value (sym m.live ∙ e)) m.beyond))
+            (λ m. inr (m.0, subst (λ (n : ℕ). Returned x.side n x.limit → ⊥) (same_value (sym m.1.live ∙ e)) m.1.not_returned)) q),
+      )
 
   mark_step : Steps
-  mark_step = ⊎_elim (λ l. ⊎_elim (under_steps l) (over_steps l) (split x.under)) dead (split x.live)
+  mark_step = by_value x.value refl
+    where
+      by_value : (v : Option ℕ) → x.value ≡ v → Steps
+      by_value None e = dead e
+      by_value (Some v) e = live v e
 
 -- a run over an organ's inputs shows the inputs themselves, and ends where the organ's own run does
 shows_them : (o : Organ) (xs : List OrganInput) → run_of organ_of itself o xs ≡ xs

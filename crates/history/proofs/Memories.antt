@@ -8,12 +8,12 @@ use Rattle.common.specs.Choice.{choose}
 use Rattle.common.proofs.Cases.{yes, no}
 use Rattle.common.proofs.Joined.{split, or_left, or_right}
 use Rattle.ways.specs.declared.Direction.{Direction}
-use Rattle.ways.specs.declared.Way.{Way}
-use Rattle.ways.specs.declared.Way.TheVariants.{Neither, To}
+use Rattle.std.specs.Prelude.{Option}
+use Rattle.std.specs.Prelude.{None, Some}
 use Rattle.ways.specs.Ways.{is_to, newer_of}
-use Rattle.ways.proofs.Cases.{is_to_self, is_to_is, is_to_neither}
+use Rattle.ways.proofs.Cases.{is_to_self, is_to_is, is_to_none}
 use Rattle.fault.specs.declared.Fault.{Fault}
-use Rattle.fault.specs.declared.Fault.TheVariants.{NoFault, RunAway, NotStarted, Long, Fast}
+use Rattle.fault.specs.declared.Fault.TheVariants.{RunAway, NotStarted, Long, Fast}
 use Rattle.fault.specs.declared.Latch.{Latch}
 use Rattle.fault.specs.Latches.{is_fault, reset_of, later_of, latched_of}
 use Rattle.drive_follow.specs.Follow.{rests_of}
@@ -42,21 +42,21 @@ use Rattle.history.proofs.Kept.{remembers_from_none}
 use Rattle.history.proofs.Steps.{Along, along, stepped}
 
 -- a newer way, or the old one
-newer_by : (d : Direction) (new old : Way) → is_to d (newer_of new old) ≡ true → (new ≡ To d) ⊎ ((is_to d old ≡ true) × (new ≡ Neither))
+newer_by : (d : Direction) (new old : Option Direction) → is_to d (newer_of new old) ≡ true → (new ≡ Some d) ⊎ ((is_to d old ≡ true) × (new ≡ None))
 unfolding newer_of
-newer_by d Neither old e = inr (e, refl)
-newer_by d (To f) old e = inl (ap To (is_to_is d f e))
+newer_by d None old e = inr (e, refl)
+newer_by d (Some f) old e = inl (ap Some (is_to_is d f e))
 
-newer_to : (d : Direction) (new old : Way) → new ≡ To d → is_to d (newer_of new old) ≡ true
+newer_some : (d : Direction) (new old : Option Direction) → new ≡ Some d → is_to d (newer_of new old) ≡ true
 unfolding newer_of
-newer_to d new old e = rw e (is_to_self d)
+newer_some d new old e = rw e (is_to_self d)
 
-newer_old : (d : Direction) (new old : Way) → new ≡ Neither → is_to d old ≡ true → is_to d (newer_of new old) ≡ true
+newer_old : (d : Direction) (new old : Option Direction) → new ≡ None → is_to d old ≡ true → is_to d (newer_of new old) ≡ true
 unfolding newer_of
 newer_old d new old e q = rw e q
 
-none_to : (d : Direction) → is_to d Neither ≡ true → ⊥
-none_to d e = false≢true (sym (is_to_neither d) ∙ e)
+none_to : (d : Direction) → is_to d None ≡ true → ⊥
+none_to d e = false≢true (sym (is_to_none d) ∙ e)
 
 -- a tick that ran
 ran : (rest : Bool) (r : Regulator) (i : Input) → within_of r ≡ true → is_out r (contacts_at i) ≡ false → Ran (tick_at rest r i)
@@ -87,10 +87,10 @@ module _ (d : Direction) (rest : Bool) (r : Regulator) (i : Input) where
             (newer_by d moved.ended _ (ap (is_to d) (sym last_is) ∙ e)),
         λ q.
             ap (is_to d) last_is
-            ∙ ⊎_elim (λ s. newer_to d moved.ended _ s.ended) (λ k. newer_old d moved.ended _ k.1.ended k.0) q,
+            ∙ ⊎_elim (λ s. newer_some d moved.ended _ s.ended) (λ k. newer_old d moved.ended _ k.1.ended k.0) q,
       ))
 
-pub last_move : (d : Direction) (r : Regulator) (is : List Input) → r.state.wear.last ≡ Neither
+pub last_move : (d : Direction) (r : Regulator) (is : List Input) → r.state.wear.last ≡ None
     → LastIs d (after_of left_by (starts_on r) is).got ↔ LastMove d (pasts_from r is)
 last_move d r is e =
     remembers_from_none left_by past_on Along along (λ a. LastIs d a.got) (Ends d) (λ q. Accepted q.tick → EndsNone q)
@@ -98,37 +98,37 @@ last_move d r is e =
 
 -- ---- the fault
 
-abbrev pub FaultIs : Fault → Regulator → Type 0
+abbrev pub FaultIs : Option Fault → Regulator → Type 0
 FaultIs f r = r.state.latch.fault ≡ f
 
-none_is : (f : Fault) → is_fault f ≡ false → f ≡ NoFault
-none_is NoFault e = refl
-none_is RunAway e = absurd (true≢false e)
-none_is NotStarted e = absurd (true≢false e)
-none_is Long e = absurd (true≢false e)
-none_is Fast e = absurd (true≢false e)
+none_is : (f : Option Fault) → is_fault f ≡ false → f ≡ None
+none_is None e = refl
+none_is (Some RunAway) e = absurd (true≢false e)
+none_is (Some NotStarted) e = absurd (true≢false e)
+none_is (Some Long) e = absurd (true≢false e)
+none_is (Some Fast) e = absurd (true≢false e)
 
-module _ (f : Fault) (is-fault : is_fault f ≡ true) where
-  no_none : NoFault ≡ f → ⊥
+module _ (f : Option Fault) (is-fault : is_fault f ≡ true) where
+  no_none : None ≡ f → ⊥
   no_none e = false≢true (ap is_fault e ∙ is-fault)
 
   -- reset, and then a fault that arises
-  later_by_lem : (l : Latch) (reset : Bool) (new : Fault) → later_of (reset_of l reset).fault new ≡ f
-      → (new ≡ f) ⊎ ((l.fault ≡ f) × (reset ≡ false) × (new ≡ NoFault))
+  later_by_lem : (l : Latch) (reset : Bool) (new : Option Fault) → later_of (reset_of l reset).fault new ≡ f
+      → (new ≡ f) ⊎ ((l.fault ≡ f) × (reset ≡ false) × (new ≡ None))
   unfolding later_of reset_of
   later_by_lem l reset new e =
       ⊎_elim (λ p. inl (yes _ _ _ _ p refl ∙ e))
       (λ p.
-      let g : (choose reset (record { fault = NoFault; age = 0 }) l).fault ≡ f = no _ _ _ _ p refl ∙ e in
+      let g : (choose reset (record { fault = None; age = 0 }) l).fault ≡ f = no _ _ _ _ p refl ∙ e in
       ⊎_elim (λ q. absurd (no_none (ap (λ (k : Latch). k.fault) (yes _ _ _ _ q refl) ∙ g)))
       (λ q. inr (ap (λ (k : Latch). k.fault) (no _ _ _ _ q refl) ∙ g, q, none_is new p)) (split reset))
       (split (is_fault new))
 
-  later_new : (old new : Fault) → new ≡ f → later_of old new ≡ f
+  later_new : (old new : Option Fault) → new ≡ f → later_of old new ≡ f
   unfolding later_of
   later_new old new e = sym (yes _ _ _ _ (ap is_fault e ∙ is-fault) refl) ∙ e
 
-  later_old : (l : Latch) (reset : Bool) (new : Fault) → reset ≡ false → new ≡ NoFault → l.fault ≡ f → later_of (reset_of l reset).fault new ≡ f
+  later_old : (l : Latch) (reset : Bool) (new : Option Fault) → reset ≡ false → new ≡ None → l.fault ≡ f → later_of (reset_of l reset).fault new ≡ f
   unfolding later_of reset_of choose
   later_old l reset new q n e = rw (q, n) e
 
@@ -154,7 +154,7 @@ module _ (f : Fault) (is-fault : is_fault f ≡ true) where
               ∙ ⊎_elim (λ s. later_new _ faulted.arose s.arose) (λ k. later_old r.state.latch _ faulted.arose k.1.not_reset k.1.arose k.0) q,
         ))
 
-  pub latched : (r : Regulator) (is : List Input) → r.state.latch.fault ≡ NoFault
+  pub latched : (r : Regulator) (is : List Input) → r.state.latch.fault ≡ None
       → FaultIs f (after_of left_by (starts_on r) is).got ↔ Latched f (pasts_from r is)
   latched r is e =
       remembers_from_none left_by past_on Along along (λ a. FaultIs f a.got) (Arises f) (λ q. Accepted q.tick → ArisesNone q)
@@ -165,14 +165,14 @@ module _ (f : Fault) (is-fault : is_fault f ≡ true) where
 abbrev pub PressIs : Direction → Regulator → Type 0
 PressIs d r = is_to d r.state.memory.remembered ≡ true
 
-pub record Held (d : Direction) (rested dropped changed : Bool) (press old : Way) : Type 0 where
+pub record Held (d : Direction) (rested dropped changed : Bool) (press old : Option Direction) : Type 0 where
   pub unfinished : rested ≡ false
   pub not_dropped : dropped ≡ false
-  pub by : (press ≡ To d) ⊎ ((is_to d old ≡ true) × (press ≡ Neither) × (changed ≡ false))
+  pub by : (press ≡ Some d) ⊎ ((is_to d old ≡ true) × (press ≡ None) × (changed ≡ false))
 
-module _ (d : Direction) (rested dropped changed : Bool) (press old : Way) where
-  abbrev after : Way
-  after = choose (rested || dropped) Neither (newer_of press (choose changed Neither old))
+module _ (d : Direction) (rested dropped changed : Bool) (press old : Option Direction) where
+  abbrev after : Option Direction
+  after = choose (rested || dropped) None (newer_of press (choose changed None old))
 
   press_by : is_to d after ≡ true → Held d rested dropped changed press old
   press_by e =
@@ -192,13 +192,13 @@ module _ (d : Direction) (rested dropped changed : Bool) (press old : Way) where
   press_is : Held d rested dropped changed press old → is_to d after ≡ true
   press_is k =
       ap (is_to d) (sym (no _ _ _ _ (rw k.unfinished k.not_dropped) refl))
-      ∙ ⊎_elim (λ q. newer_to d press _ q) (λ q. newer_old d press _ q.1 (ap (is_to d) (sym (no _ _ _ _ q.2 refl)) ∙ q.0)) k.by
+      ∙ ⊎_elim (λ q. newer_some d press _ q) (λ q. newer_old d press _ q.1 (ap (is_to d) (sym (no _ _ _ _ q.2 refl)) ∙ q.0)) k.by
 
 module _ (d : Direction) (rest : Bool) (r : Regulator) (i : Input) (k : Linked rest r) where
   abbrev pressed : Past
   pressed = past_on (record { rest = rest; got = r }) i
 
-  abbrev fault : Fault
+  abbrev fault : Option Fault
   fault = (supervised_at r i).latch.fault
 
   remembered_is : (live_at r i).next.state.memory.remembered
@@ -260,7 +260,7 @@ module _ (d : Direction) (rest : Bool) (r : Regulator) (i : Input) (k : Linked r
       stepped rest r i (PressIs d) (Presses d pressed) (PressesNone pressed)
       (λ s. record { accepted = s.accepted; not_out = s.remembering.not_out }) (λ q. q.remembering.not_out) (none_to d) (λ h o. (forth h o, back h o))
 
-pub pressed_last : (d : Direction) (r : Regulator) (is : List Input) → r.state.memory.remembered ≡ Neither
+pub pressed_last : (d : Direction) (r : Regulator) (is : List Input) → r.state.memory.remembered ≡ None
     → PressIs d (after_of left_by (starts_on r) is).got ↔ PressedLast d (pasts_from r is)
 pressed_last d r is e =
     remembers_from_none left_by past_on Along along (λ a. PressIs d a.got) (Presses d) (λ q. Accepted q.tick → PressesNone q)

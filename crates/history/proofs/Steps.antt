@@ -9,8 +9,8 @@ use Rattle.common.proofs.Joined.{split, and_left}
 use Rattle.slots.specs.Slots.{slot, t7}
 use Rattle.ways.specs.declared.Direction.{Direction}
 use Rattle.ways.specs.declared.Direction.TheVariants.{Raise, Lower}
-use Rattle.ways.specs.declared.Way.{Way}
-use Rattle.ways.specs.declared.Way.TheVariants.{Neither, To}
+use Rattle.std.specs.Prelude.{Option}
+use Rattle.std.specs.Prelude.{None, Some}
 use Rattle.ways.proofs.Cases.{is_to_self}
 use Rattle.drive_follow.specs.Follow.{rests_of}
 use Rattle.drive_shown.specs.Shown.{on_of}
@@ -97,7 +97,7 @@ module _ (rest : Bool) (r : Regulator) (i : Input) (k : Linked rest r) where
       }
 
   module _ (h : within_of r ≡ true) (o : is_out r (contacts_at i) ≡ false) where
-    pub decided_begins : (d : Direction) → (decided_at r i).command ≡ To d → Begins d (tick_at rest r i)
+    pub decided_begins : (d : Direction) → (decided_at r i).command ≡ Some d → Begins d (tick_at rest r i)
     unfolding situation_of ask_of on_of
     decided_begins d c =
         record {
@@ -105,19 +105,19 @@ module _ (rest : Bool) (r : Regulator) (i : Input) (k : Linked rest r) where
           from_rest = k h ∙ and_left (rests_of r.state.drive) _ ((decided_sound r.settings (situation_at r i)).begins d c).resting;
           on =
               ap (given (command_field d)) (live_is r i h o) ∙ live_on r i d
-              ∙ ap showing.bit_of (ap (λ (v : Way). on_to d (ask_of (supervised_at r i).drive (contacts_at i).automatic v) (slot r.settings t7)) c ∙ is_to_self d);
+              ∙ ap showing.bit_of (ap (λ (v : Option Direction). on_to d (ask_of (supervised_at r i).drive (contacts_at i).automatic v) (slot r.settings t7)) c ∙ is_to_self d);
         }
 
-    none_of_lem : (w : Way) → (decided_at r i).command ≡ w → (Command (tick_at rest r i) → ⊥) → (decided_at r i).command ≡ Neither
-    none_of_lem Neither e n = e
-    none_of_lem (To d) e n = absurd (n (command_of _ d (decided_begins d e)))
+    none_of_lem : (w : Option Direction) → (decided_at r i).command ≡ w → (Command (tick_at rest r i) → ⊥) → (decided_at r i).command ≡ None
+    none_of_lem None e n = e
+    none_of_lem (Some d) e n = absurd (n (command_of _ d (decided_begins d e)))
 
-    pub none_decided : (Command (tick_at rest r i) → ⊥) → (decided_at r i).command ≡ Neither
+    pub none_decided : (Command (tick_at rest r i) → ⊥) → (decided_at r i).command ≡ None
     none_decided n = none_of_lem (decided_at r i).command refl n
 
-  begins_to : (d : Direction) → (decided_at r i).command ≡ Neither → Begins d (tick_at rest r i) → ⊥
-  begins_to d e b = let z : To d ≡ Neither = sym (begun d rest r i k b).command ∙ e in let y : ◌≡◌ {A = ℕ} 0 1 = cc in omega arith
+  begins_to : (d : Direction) → (decided_at r i).command ≡ None → Begins d (tick_at rest r i) → ⊥
+  begins_to d e b = let z : Some d ≡ None = sym (begun d rest r i k b).command ∙ e in let y : ◌≡◌ {A = ℕ} 0 1 = cc in omega arith
 
-  pub none_begins : (decided_at r i).command ≡ Neither → Command (tick_at rest r i) → ⊥
+  pub none_begins : (decided_at r i).command ≡ None → Command (tick_at rest r i) → ⊥
   none_begins e (inl b) = begins_to Raise e b
   none_begins e (inr b) = begins_to Lower e b

@@ -13,8 +13,8 @@ use Rattle.common.proofs.Cases.{yes}
 use Rattle.slots.specs.Slots.{slot, tap_source, n_l, n_r}
 use Rattle.ways.specs.declared.Direction.{Direction}
 use Rattle.ways.specs.declared.Direction.TheVariants.{Raise, Lower}
-use Rattle.ways.specs.declared.Way.{Way}
-use Rattle.ways.specs.declared.Way.TheVariants.{Neither, To}
+use Rattle.std.specs.Prelude.{Option}
+use Rattle.std.specs.Prelude.{None, Some}
 use Rattle.tap_counted.specs.declared.Counted.{Counted}
 use Rattle.tap_counted.specs.Counted.{tap_of, up_of, down_of, step_of, moved_of, counted_of}
 use Rattle.input.specs.declared.Input.{Input}
@@ -37,12 +37,12 @@ use Rattle.history.proofs.Fields.{live_wear, live_next, not_out_lem}
 abbrev one_if : Bool → ℕ
 one_if b = choose b 1 0
 
-pub record Balanced (s : List ℕ) (tap : ℕ) (w : Way) (c : Counted) : Type 0 where
+pub record Balanced (s : List ℕ) (tap : ℕ) (w : Option Direction) (c : Counted) : Type 0 where
   pub balance :
       c.tap + one_if (downward s w && not c.range_error) ≡ tap + one_if (upward s w && not c.range_error)
 
 module _ (s : List ℕ) (tap : ℕ) where
-  stays : (w : Way) (error : Bool) → (downward s w && not error) ≡ false → (upward s w && not error) ≡ false → Balanced s tap w (tap_of tap error)
+  stays : (w : Option Direction) (error : Bool) → (downward s w && not error) ≡ false → (upward s w && not error) ≡ false → Balanced s tap w (tap_of tap error)
   unfolding choose
   stays w error p q = record { balance = rw (p, q) }
 
@@ -50,7 +50,7 @@ module _ (s : List ℕ) (tap : ℕ) where
   and_not_true true = refl
   and_not_true false = refl
 
-  up_balanced : (w : Way) → upward s w ≡ true → downward s w ≡ false → (end : ℕ) → Balanced s tap w (up_of tap end)
+  up_balanced : (w : Option Direction) → upward s w ≡ true → downward s w ≡ false → (end : ℕ) → Balanced s tap w (up_of tap end)
   unfolding up_of choose
   up_balanced w u d end = go (ltb tap end) refl
     where
@@ -58,7 +58,7 @@ module _ (s : List ℕ) (tap : ℕ) where
       go true e = record { balance = rw (u, d) (omega arith) }
       go false e = stays w true (and_not_true (downward s w)) (and_not_true (upward s w))
 
-  down_balanced : (w : Way) → upward s w ≡ false → downward s w ≡ true → (end : ℕ) → Balanced s tap w (down_of tap end)
+  down_balanced : (w : Option Direction) → upward s w ≡ false → downward s w ≡ true → (end : ℕ) → Balanced s tap w (down_of tap end)
   unfolding down_of choose
   down_balanced w u d end = go (ltb end tap) refl
     where
@@ -66,27 +66,27 @@ module _ (s : List ℕ) (tap : ℕ) where
       go true e = let m : end < tap = ltb-true end tap e in record { balance = rw (u, d) (omega arith) }
       go false e = stays w true (and_not_true (downward s w)) (and_not_true (upward s w))
 
-  step_balanced : (d : Direction) (b : Bool) → eqb (slot s tap_source) 4 ≡ b → Balanced s tap (To d) (step_of s tap d)
+  step_balanced : (d : Direction) (b : Bool) → eqb (slot s tap_source) 4 ≡ b → Balanced s tap (Some d) (step_of s tap d)
   unfolding step_of choose
-  step_balanced Raise true e = rw e (down_balanced (To Raise) (rw e) (rw e) (slot s n_l))
-  step_balanced Raise false e = rw e (up_balanced (To Raise) (rw e) (rw e) (slot s n_r))
-  step_balanced Lower true e = rw e (up_balanced (To Lower) (rw e) (rw e) (slot s n_r))
-  step_balanced Lower false e = rw e (down_balanced (To Lower) (rw e) (rw e) (slot s n_l))
+  step_balanced Raise true e = rw e (down_balanced (Some Raise) (rw e) (rw e) (slot s n_l))
+  step_balanced Raise false e = rw e (up_balanced (Some Raise) (rw e) (rw e) (slot s n_r))
+  step_balanced Lower true e = rw e (up_balanced (Some Lower) (rw e) (rw e) (slot s n_r))
+  step_balanced Lower false e = rw e (down_balanced (Some Lower) (rw e) (rw e) (slot s n_l))
 
-  moved_balanced : (w : Way) → Balanced s tap w (moved_of s tap w)
+  moved_balanced : (w : Option Direction) → Balanced s tap w (moved_of s tap w)
   unfolding moved_of choose
-  moved_balanced Neither = go (eqb (slot s tap_source) 4) refl
+  moved_balanced None = go (eqb (slot s tap_source) 4) refl
     where
-      go : (b : Bool) → eqb (slot s tap_source) 4 ≡ b → Balanced s tap Neither (tap_of tap false)
-      go true e = stays Neither false (rw e) (rw e)
-      go false e = stays Neither false (rw e) (rw e)
-  moved_balanced (To d) = step_balanced d (eqb (slot s tap_source) 4) refl
+      go : (b : Bool) → eqb (slot s tap_source) 4 ≡ b → Balanced s tap None (tap_of tap false)
+      go true e = stays None false (rw e) (rw e)
+      go false e = stays None false (rw e) (rw e)
+  moved_balanced (Some d) = step_balanced d (eqb (slot s tap_source) 4) refl
 
 -- "if slot 5 is 3 or 4"
 abbrev pub Counts : List ℕ → Type 0
 Counts s = (eqb (slot s tap_source) 3 || eqb (slot s tap_source) 4) ≡ true
 
-counted_balanced : (s : List ℕ) (tap : ℕ) (w : Way) → Counts s → Balanced s tap w (counted_of s tap w)
+counted_balanced : (s : List ℕ) (tap : ℕ) (w : Option Direction) → Counts s → Balanced s tap w (counted_of s tap w)
 unfolding counted_of
 counted_balanced s tap w c = go (counted_of s tap w) (sym (yes _ _ _ _ c refl))
   where

@@ -7,7 +7,7 @@ use Prim.Native.Nat.{ℕ}
 use lib.Ieee.{of_bits}
 use lib.ListN.{replicate}
 use Rattle.ways.specs.declared.Direction.TheVariants.{Raise}
-use Rattle.ways.specs.declared.Way.TheVariants.{To}
+use Rattle.std.specs.Prelude.{Some}
 use Rattle.input.specs.declared.Input.{Input}
 use Rattle.claim.specs.Claim.{output}
 use Rattle.claim.specs.Scenes.{varied_sheet, brought}
@@ -26,7 +26,7 @@ repeating =
       organs = m.organs;
       drive = m.drive;
       latch = m.latch;
-      memory = record { wait = m.memory.wait; repeat = To Raise; keys = m.memory.keys; remembered = m.memory.remembered };
+      memory = record { wait = m.memory.wait; repeat = Some Raise; keys = m.memory.keys; remembered = m.memory.remembered };
       wear = m.wear;
     })
 

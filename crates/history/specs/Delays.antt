@@ -6,14 +6,15 @@ use Rattle.ways.specs.declared.Direction.TheVariants.{Raise, Lower}
 use Rattle.input.specs.Brought.{bit_of}
 use Rattle.busbar_level.specs.declared.Level.{Level}
 use Rattle.busbar_level.specs.declared.Level.TheVariants.{Low, InBand, High}
+use Rattle.std.specs.Prelude.{Option, Some}
 use Rattle.claim.specs.Claim.{Accepted, Begins, Command, delay_to}
 use Rattle.history.specs.Kept.{SetAndKept}
 use Rattle.history.specs.Pasts.{Past, Out}
 
 -- the side that the other direction answers
-abbrev pub other_side : Direction → Level
-other_side Raise = High
-other_side Lower = Low
+abbrev pub other_side : Direction → Option Level
+other_side Raise = Some High
+other_side Lower = Some Low
 
 -- an automatic command to this side begins on the tick
 pub record Commands (d : Direction) (p : Past) : Type 0 where
@@ -23,7 +24,7 @@ pub record Commands (d : Direction) (p : Past) : Type 0 where
 -- "no tick since was in band, to the other side, or in manual mode". That command is "the last automatic command", so none begins here;
 -- and rule 1's fresh record has no "automatic command".
 pub record Lasts (d : Direction) (p : Past) : Type 0 where
-  pub not_in_band : p.level ≡ InBand → ⊥
+  pub not_in_band : p.level ≡ Some InBand → ⊥
   pub not_other : p.level ≡ other_side d → ⊥
   pub not_manual : bit_of p.tick.contacts 14 ≡ true
   pub no_command : Command p.tick → ⊥

@@ -1,16 +1,15 @@
 -- The other memories of a record, by the ticks before: the last direction, the fault, the press that is remembered, the counted tap, an
 -- organ's mark. Definitions only.
-use Rattle.std.specs.Prelude.{ℕ, ◌+◌, ◌*◌, ◌<◌, ◌≡◌, Bool, true, false, not, ◌&&◌, List, [], ◌∷◌, ◌⊎◌, eqb}
+use Rattle.std.specs.Prelude.{ℕ, ◌+◌, ◌*◌, ◌<◌, ◌≡◌, Bool, false, not, ◌&&◌, List, [], ◌∷◌, Option, None, Some, eqb}
 use Rattle.common.specs.Choice.{choose}
 use Rattle.slots.specs.Slots.{slot, tap_source}
 use Rattle.ways.specs.declared.Direction.{Direction}
-use Rattle.ways.specs.declared.Way.{Way}
-use Rattle.ways.specs.declared.Way.TheVariants.{Neither, To}
 use Rattle.ways.specs.Ways.{raises, lowers}
 use Rattle.input.specs.Brought.{bit_of}
 use Rattle.fault.specs.declared.Fault.{Fault}
-use Rattle.fault.specs.declared.Fault.TheVariants.{NoFault}
 use Rattle.organ.specs.declared.OrganInput.{OrganInput}
+use Rattle.organ.specs.declared.Side.{Side}
+use Rattle.organ.specs.declared.Side.TheVariants.{Over, Under}
 use Rattle.claim.specs.Claim.{Tick, Accepted}
 use Rattle.history.specs.Kept.{SetAndKept}
 use Rattle.history.specs.Pasts.{Past, Out, Ran, Faultless}
@@ -19,27 +18,27 @@ use Rattle.history.specs.Pasts.{Past, Out, Ran, Faultless}
 
 pub record Ends (d : Direction) (p : Past) : Type 0 where
   pub ran : Ran p.tick
-  pub ended : p.ended ≡ To d
+  pub ended : p.ended ≡ Some d
 
 pub record EndsNone (p : Past) : Type 0 where
   pub not_out : Out p.tick → ⊥
-  pub ended : p.ended ≡ Neither
+  pub ended : p.ended ≡ None
 
 abbrev pub LastMove : Direction → List Past → Type 0
 LastMove d past = SetAndKept Past (Ends d) (λ p. Accepted p.tick → EndsNone p) past
 
 -- ---- the fault: it lasts until "reset clears the fault", or out
 
-pub record Arises (f : Fault) (p : Past) : Type 0 where
+pub record Arises (f : Option Fault) (p : Past) : Type 0 where
   pub ran : Ran p.tick
   pub arose : p.arose ≡ f
 
 pub record ArisesNone (p : Past) : Type 0 where
   pub not_out : Out p.tick → ⊥
   pub not_reset : bit_of p.tick.contacts 12 ≡ false
-  pub arose : p.arose ≡ NoFault
+  pub arose : p.arose ≡ None
 
-abbrev pub Latched : Fault → List Past → Type 0
+abbrev pub Latched : Option Fault → List Past → Type 0
 Latched f past = SetAndKept Past (Arises f) (λ p. Accepted p.tick → ArisesNone p) past
 
 -- ---- the press that is remembered (02, tickets 6 and 7)
@@ -56,12 +55,12 @@ pub record Remembering (t : Tick) : Type 0 where
 pub record Presses (d : Direction) (p : Past) : Type 0 where
   pub accepted : Accepted p.tick
   pub remembering : Remembering p.tick
-  pub press : p.press ≡ To d
+  pub press : p.press ≡ Some d
 
 -- "the latest replacing the earlier one"; "a change of mode drops a remembered press"
 pub record PressesNone (p : Past) : Type 0 where
   pub remembering : Remembering p.tick
-  pub press : p.press ≡ Neither
+  pub press : p.press ≡ None
   pub same_mode : p.changed ≡ false
 
 abbrev pub PressedLast : Direction → List Past → Type 0
@@ -70,10 +69,10 @@ PressedLast d past = SetAndKept Past (Presses d) (λ p. Accepted p.tick → Pres
 -- ---- the counted tap: "raise +1, reversed −1, lower the opposite; past an end it stays"
 
 -- "3 counted, 4 counted reversed"
-abbrev pub upward : List ℕ → Way → Bool
+abbrev pub upward : List ℕ → Option Direction → Bool
 upward s w = choose (eqb (slot s tap_source) 4) (lowers w) (raises w)
 
-abbrev pub downward : List ℕ → Way → Bool
+abbrev pub downward : List ℕ → Option Direction → Bool
 downward s w = choose (eqb (slot s tap_source) 4) (raises w) (lowers w)
 
 -- the ticks on which a move ended that steps the tap up, or down, and not past an end
@@ -90,21 +89,25 @@ downs_of s past = tick_count (λ p. downward s p.ended && not p.past_end) past
 -- ---- an organ's mark, by what its ticks bring
 
 -- "over: marked if value > set"; "under: < set"
-abbrev pub Beyond : OrganInput → Type 0
-Beyond x = ((x.under ≡ false) × (x.limit < x.value)) ⊎ ((x.under ≡ true) × (x.value < x.limit))
+abbrev pub Beyond : Side → ℕ → ℕ → Type 0
+Beyond Over value limit = limit < value
+Beyond Under value limit = value < limit
 
 -- "cleared if 20 × value < 19 × set"; under: "20 × value > 21 × set"
-abbrev pub Returned : OrganInput → Type 0
-Returned x = ((x.under ≡ false) × (20 * x.value < 19 * x.limit)) ⊎ ((x.under ≡ true) × (21 * x.limit < 20 * x.value))
+abbrev pub Returned : Side → ℕ → ℕ → Type 0
+Returned Over value limit = 20 * value < 19 * limit
+Returned Under value limit = 21 * limit < 20 * value
 
 pub record Marks (x : OrganInput) : Type 0 where
-  pub live : x.live ≡ true
-  pub beyond : Beyond x
+  pub value : ℕ
+  pub live : x.value ≡ Some value
+  pub beyond : Beyond x.side value x.limit
 
 -- "off, no section or missing: cleared"; "else kept"
 pub record Leaves (x : OrganInput) : Type 0 where
-  pub live : x.live ≡ true
-  pub not_returned : Returned x → ⊥
+  pub value : ℕ
+  pub live : x.value ≡ Some value
+  pub not_returned : Returned x.side value x.limit → ⊥
 
 abbrev pub MarkedLast : List OrganInput → Type 0
 MarkedLast xs = SetAndKept OrganInput Marks Leaves xs

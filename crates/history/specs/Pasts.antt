@@ -1,7 +1,8 @@
 -- A tick of a list with what the rules find on it: what the memories of a record are said by. Definitions only.
 use Rattle.std.specs.Prelude.{◌≡◌, Bool, true, List, ◌⊎◌}
 use Rattle.slots.specs.Slots.{slot, in_service}
-use Rattle.ways.specs.declared.Way.{Way}
+use Rattle.std.specs.Prelude.{Option}
+use Rattle.ways.specs.declared.Direction.{Direction}
 use Rattle.input.specs.declared.Contacts.{Contacts}
 use Rattle.input.specs.declared.Input.{Input}
 use Rattle.input.specs.Brought.{bit_of, contacts_of}
@@ -23,14 +24,14 @@ pub record Past : Type 0 where
   -- as demand 3 sees it
   pub tick : Tick
   -- rule 6: the place of U, which no output tells where it is in band or missing; and U > U_set5
-  pub level : Level
+  pub level : Option Level
   pub above : Bool
   -- rule 7: the move that ended, whether it went past an end of the taps, and the fault that arose
-  pub ended : Way
+  pub ended : Option Direction
   pub past_end : Bool
-  pub arose : Fault
+  pub arose : Option Fault
   -- rule 9: the press, blocks aside; whether the mode, local or remote, is another than on the previous tick
-  pub press : Way
+  pub press : Option Direction
   pub changed : Bool
 
 -- with what rules 3 to 6 found

@@ -13,8 +13,8 @@ use Rattle.claim.specs.Claim.{Kept}
 use Rattle.record.specs.declared.State.{State}
 use Rattle.record.specs.Whole.{regulator_of}
 use Rattle.input.specs.declared.Input.{Input}
-use Rattle.rules.specs.declared.Stepped.{Stepped}
-use Rattle.rules.specs.Ticks.{refused_of, tick_of, stepped_of}
+use Rattle.rules.specs.declared.Ticked.{Ticked}
+use Rattle.rules.specs.Ticks.{refusal_in, outputs_in, refused_of, tick_of, stepped_of}
 use Rattle.rules.proofs.Next.{tick_lasting}
 use Rattle.rules.proofs.Steps.{accepted_is, settings_kept}
 use Rattle.image.specs.declared.Numbers.{Numbers}
@@ -94,12 +94,15 @@ hosted m b e h k u =
 -- ---- over plain values, as the functions ask it
 
 module _ (s : List ℕ) (b : Brought) where
-  pub run_made : (m : State) {i : Input} {x : Stepped} {n : Numbers} → i ≡ input_of b → x ≡ stepped_of (tick_of (regulator_of s m) i)
-      → n ≡ numbers_of x.state
-      → ◌≡◌ {A = Advanced} (record { refusal = x.reply.refusal; outputs = record { fields = x.reply.outputs }; numbers = n })
-      (besides_of (advanced_of (regulator_of s m) b))
+  pub run_made : (m : State) {i : Input} {x : Ticked State} {k : ℕ} {o : List ℕ} {n : Numbers}
+      → i ≡ input_of b
+      → x ≡ stepped_of (tick_of (regulator_of s m) i)
+      → k ≡ refusal_in x.reply
+      → o ≡ outputs_in x.reply
+      → n ≡ numbers_of x.next
+      → ◌≡◌ {A = Advanced} (record { refusal = k; outputs = record { fields = o }; numbers = n }) (besides_of (advanced_of (regulator_of s m) b))
   unfolding advanced_of ticked_image image_of
-  run_made m p q u = rw (u, q, p) refl
+  run_made m p q v w u = rw (v, w, u, q, p) refl
 
   module _ (n : Numbers) {t : Advanced} {is : Bool} (e : is ≡ is_state n) where
     pub state_advanced : is ≡ true → {m : State} → m ≡ state_of n → t ≡ besides_of (advanced_of (regulator_of s m) b)

@@ -5,12 +5,15 @@ use mathlib.Core.Bool.{Bool, true, false}
 use mathlib.Core.List.{List, [], ◌∷◌, map}
 use Rattle.common.specs.Choice.{choose}
 use Rattle.common.proofs.Cases.{no}
+use Prim.Native.Nat.{ℕ}
+use Rattle.ways.specs.declared.Direction.{Direction}
 use Rattle.ways.specs.declared.Direction.TheVariants.{Raise, Lower}
 use Rattle.drive.specs.declared.Drive.{Drive}
 use Rattle.drive.specs.declared.Drive.TheVariants.{Resting, Asked, Moving}
 use Rattle.drive_follow.specs.Follow.{rests_of}
+use Rattle.std.specs.Prelude.{Option, None, Some}
+use Rattle.command.specs.Idling.{waits_for}
 use Rattle.command.specs.declared.Wait.{Wait}
-use Rattle.command.specs.declared.Wait.TheVariants.{Idle, For}
 use Rattle.record.specs.declared.Regulator.{Regulator}
 use Rattle.record_limits.specs.Limits.{within_of}
 use Rattle.claim.specs.Claim.{Tick, All, Kept}
@@ -53,17 +56,25 @@ module _ (r : Regulator) where
   rest_of (Moving d n true) e = rw e
   rest_of (Moving d n false) e = rw e
 
-  low_of : (w : Wait) → r.state.memory.wait ≡ w → (image_opening (image_of r)).low_wait ≡ (opening r).low_wait
+  low_to : (d : Direction) (n : ℕ) → r.state.memory.wait ≡ waits_for d n → (image_opening (image_of r)).low_wait ≡ (opening r).low_wait
   unfolding image_of numbers_of wait_image choose
-  low_of Idle e = rw e
-  low_of (For Raise n) e = rw e
-  low_of (For Lower n) e = rw e
+  low_to Raise n e = rw e
+  low_to Lower n e = rw e
 
-  high_of_lem : (w : Wait) → r.state.memory.wait ≡ w → (image_opening (image_of r)).high_wait ≡ (opening r).high_wait
+  low_of : (w : Option Wait) → r.state.memory.wait ≡ w → (image_opening (image_of r)).low_wait ≡ (opening r).low_wait
   unfolding image_of numbers_of wait_image choose
-  high_of_lem Idle e = rw e
-  high_of_lem (For Raise n) e = rw e
-  high_of_lem (For Lower n) e = rw e
+  low_of None e = rw e
+  low_of (Some w) e = low_to w.direction w.ticks e
+
+  high_to : (d : Direction) (n : ℕ) → r.state.memory.wait ≡ waits_for d n → (image_opening (image_of r)).high_wait ≡ (opening r).high_wait
+  unfolding image_of numbers_of wait_image choose
+  high_to Raise n e = rw e
+  high_to Lower n e = rw e
+
+  high_of_lem : (w : Option Wait) → r.state.memory.wait ≡ w → (image_opening (image_of r)).high_wait ≡ (opening r).high_wait
+  unfolding image_of numbers_of wait_image choose
+  high_of_lem None e = rw e
+  high_of_lem (Some w) e = high_to w.direction w.ticks e
 
   opening_of : image_opening (image_of r) ≡ opening r
   unfolding image_of

@@ -5,7 +5,7 @@ use Rattle.common.specs.Choice.{choose}
 use Rattle.record.specs.declared.Regulator.{Regulator}
 use Rattle.record_limits.specs.Limits.{within_of}
 use Rattle.rules.specs.declared.Ticked.{Ticked}
-use Rattle.rules.specs.Ticks.{tick_of}
+use Rattle.rules.specs.Ticks.{refusal_in, outputs_in, tick_of}
 use Rattle.image.specs.declared.Image.{Image}
 use Rattle.image_input.specs.declared.Brought.{Brought}
 use Rattle.image.specs.Images.{numbers_in, image_with, image_of, record_of}
@@ -15,8 +15,8 @@ use Rattle.hosting.specs.declared.ImageTicked.{ImageTicked}
 use Rattle.hosting.specs.declared.Outputs.{Outputs}
 
 -- a tick's reply, with the image of the next record
-unfoldable pub ticked_image : Ticked → ImageTicked
-ticked_image t = record { refusal = t.reply.refusal; outputs = record { fields = t.reply.outputs }; next = image_of t.next }
+unfoldable pub ticked_image : Ticked Regulator → ImageTicked
+ticked_image t = record { refusal = refusal_in t.reply; outputs = record { fields = (outputs_in t.reply) }; next = image_of t.next }
 
 unfoldable pub advanced_of : Regulator → Brought → ImageTicked
 advanced_of r b = ticked_image (tick_of r (input_of b))

@@ -31,7 +31,8 @@ pub struct ImageTicked {
     pub next: Image,
 }
 
-// The same but for the settings.
+// The same but for the settings. The refusal is a number here too: that of numbers which are no state's is this crate's own, and not
+// one of `rules::Refused`.
 #[derive(Clone, Copy)]
 pub struct Advanced {
     pub refusal: u32,
@@ -43,16 +44,13 @@ pub struct Advanced {
 fn run(s: &[u32; SLOTS], m: State, b: Brought) -> Advanced
     ensures { result ≡ besides_of (advanced_of (regulator_of s.now m) b) }
 {
-    let i = image_input::input_of(b);
-    let x = regulator::step(s, m, i);
-    let reply = x.reply;
-    let fields = reply.outputs;
-    let after = x.state;
-    let numbers = image_writing::numbers_of(after);
+    let x = regulator::step(s, m, b.into());
+    let fields = rules::outputs_in(x.reply);
+    let after = x.next;
     Advanced {
-        refusal: reply.refusal,
-        outputs: Outputs { fields: fields },
-        numbers: numbers,
+        refusal: rules::refusal_in(x.reply),
+        outputs: Outputs { fields },
+        numbers: image_writing::numbers_of(after),
     }
 }
 
@@ -61,8 +59,7 @@ pub fn advance(s: &[u32; SLOTS], n: Numbers, b: Brought) -> Advanced
     ensures { result ≡ besides_of (image_tick_of (image_with s.now n) b) }
 {
     if image_reading::is_state(n) {
-        let state = image_reading::state_of(n);
-        run(s, state, b)
+        run(s, image_reading::state_of(n), b)
     } else {
         Advanced {
             refusal: 4,
@@ -78,13 +75,10 @@ pub fn advance(s: &[u32; SLOTS], n: Numbers, b: Brought) -> Advanced
 pub fn with_settings(settings: [u32; SLOTS], x: Advanced) -> ImageTicked
     ensures { result ≡ whole_of settings x }
 {
-    let outputs = x.outputs;
-    let after = x.numbers;
-    let next = image_writing::image_with(settings, after);
     ImageTicked {
         refusal: x.refusal,
-        outputs: outputs,
-        next: next,
+        outputs: x.outputs,
+        next: image_writing::image_with(settings, x.numbers),
     }
 }
 
@@ -98,7 +92,6 @@ pub fn image_tick(m: Image, b: Brought) -> ImageTicked
     ensures lists { (later : List Brought) → Kept (image_opening m) (image_list_from m b result later) }
 {
     let settings = m.settings;
-    let before = image_reading::numbers_in(m);
-    let x = advance(&settings, before, b);
+    let x = advance(&settings, image_reading::numbers_in(m), b);
     with_settings(settings, x)
 }

@@ -1,25 +1,26 @@
 // The look ahead from an image, by value. It goes tick by tick over `hosting::advance`, as the host's own ticks do.
 #![tactic(auto)]
 
-ghost use Rattle.std.specs.Prelude.{◌≡◌, true};
+ghost use Rattle.std.specs.Prelude.{◌≡◌};
 ghost use Rattle.common.specs.Choice.{choose};
-ghost use Rattle.rules.specs.Lists.{starts_on};
-ghost use Rattle.ahead.specs.Looking.{is_horizon, outlook_from};
-ghost use Rattle.image.specs.Images.{image_with, record_of};
-ghost use Rattle.image_input.specs.Bringing.{input_of};
+ghost use Rattle.ahead.specs.Looking.{is_horizon, number_of};
+ghost use Rattle.ahead_looking.specs.declared.Glance.{Glance};
+ghost use Rattle.image.specs.Images.{image_with};
 ghost use Rattle.hosting.specs.Hosting.{is_accepted, image_tick_of, besides_of};
-ghost use Rattle.hosting_ahead.specs.Outlooks.{sight_of, in_numbers, outlook_image, given_back, image_ahead_of, image_after, image_ticks_run};
+ghost use Rattle.hosting_ahead.specs.Outlooks.{sight_of, in_numbers, image_answer_of, given_back, image_ahead_of, image_after, image_ticks_run};
 
-use ahead::LONGEST_HORIZON;
+use ahead::{Outlook, Refusal};
+use ahead_looking::{Glance, Repeated};
 use hosting::Outputs;
 use image::{Image, Numbers};
 use image_input::Brought;
 use showing::FIELDS;
 use slots::SLOTS;
-use ways::Way;
+use ways::Direction;
 
 // What a look ahead answers: 0, or the refusal 4 or 6; the tick, counted from 1, on which the first command begins, and the number of
 // its way; else 0 and 0. The outputs and the image are those after that tick, or after the last one of the horizon.
+// It stays in numbers: no enum may cross the C interface.
 #[repr(C)]
 #[derive(Clone, Copy)]
 pub struct ImageOutlook {
@@ -30,84 +31,50 @@ pub struct ImageOutlook {
     pub next: Image,
 }
 
-// One tick of the look: the command that it begins, whether the drive rests after it, its outputs and its numbers.
+// The tick of an image.
 #[derive(Clone, Copy)]
-struct Sight {
-    way: Way,
-    rests: bool,
-    fields: [u32; FIELDS],
-    numbers: Numbers,
+struct OnImage {
+    settings: [u32; SLOTS],
+    brought: Brought,
 }
 
-fn sight_at(s: &[u32; SLOTS], n: Numbers, rest: bool, b: Brought) -> Sight
-    ensures { result ≡ sight_of rest (besides_of (image_tick_of (image_with s.now n) b)) }
-{
-    let x = hosting::advance(s, n, b);
-    let outputs = x.outputs;
-    let fields = outputs.fields;
-    let after = x.numbers;
-    let way = ahead_looking::begun(rest, &fields);
-    Sight {
-        way: way,
-        rests: fields[24] == 0,
-        fields: fields,
-        numbers: after,
+impl Repeated<Numbers> for OnImage {
+    ghost tick = { λ t n. sight_of (besides_of (image_tick_of (image_with t.settings n) t.brought)) };
+
+    fn tick(&self, before: Numbers) -> Glance<Numbers> {
+        let ticked = hosting::advance(&self.settings, before, self.brought);
+        let outputs = ticked.outputs.fields;
+        Glance {
+            outputs,
+            next: ticked.numbers,
+        }
     }
 }
 
 // The answer in numbers.
-fn in_numbers(
-    tick: u32,
-    w: Way,
-    fields: [u32; FIELDS],
-    settings: [u32; SLOTS],
-    n: Numbers,
-) -> ImageOutlook
-    ensures { result ≡ in_numbers tick w fields settings n }
+fn in_numbers(settings: [u32; SLOTS], o: Outlook<Numbers>) -> ImageOutlook
+    ensures { result ≡ in_numbers settings o }
 {
-    let way = coding_ways::way_number(w);
-    let next = image_writing::image_with(settings, n);
+    let (tick, way) = match o.begun {
+        Some(begun) => (begun.tick, Some(begun.direction)),
+        None => (0, None),
+    };
+    let fields = o.outputs;
     ImageOutlook {
         refusal: 0,
-        tick: tick,
-        way: way,
-        outputs: Outputs { fields: fields },
-        next: next,
+        tick,
+        way: coding_ways::way_number(way),
+        outputs: Outputs { fields },
+        next: image_writing::image_with(settings, o.next),
     }
-}
-
-// The look itself, from the settings and numbers of an image that is accepted: it ends at the first command.
-fn look_on(settings: [u32; SLOTS], n: Numbers, b: Brought, horizon: u32) -> ImageOutlook
-    requires { is_accepted (image_with settings n) ≡ true }
-    ensures { result ≡ outlook_image (outlook_from (starts_on (record_of (image_with settings n)).state) (input_of b) horizon) }
-{
-    let drive = n.drive;
-    let mut numbers = n;
-    let mut rest = drive.kind == 0;
-    let mut fields = [0u32; FIELDS];
-    let mut ticks: u32 = 0;
-    while ticks < horizon {
-        let g = sight_at(&settings, numbers, rest, b);
-        let after = g.numbers;
-        let shown = g.fields;
-        let way = g.way;
-        numbers = after;
-        fields = shown;
-        rest = g.rests;
-        ticks += 1;
-        if ways::to_raise(way) | ways::to_lower(way) {
-            return in_numbers(ticks, way, fields, settings, numbers);
-        }
-    }
-    in_numbers(0, Way::Neither, fields, settings, numbers)
 }
 
 // A refusal: tick 0, no way, outputs all 0, the image as given.
-fn given_back(refusal: u32, m: Image) -> ImageOutlook
-    ensures { result ≡ given_back refusal m }
+fn given_back(refusal: Refusal, m: Image) -> ImageOutlook
+    ensures { result ≡ given_back (number_of refusal) m }
 {
     ImageOutlook {
-        refusal: refusal,
+        refusal: refusal.number(),
         tick: 0,
         way: 0,
         outputs: Outputs {
@@ -115,6 +82,26 @@ fn given_back(refusal: u32, m: Image) -> ImageOutlook
         },
         next: m,
     }
+}
+
+// The look, over the image's numbers: refused where a tick of it is refused, then by the horizon.
+fn looked(m: Image, b: Brought, horizon: u32) -> Result<Outlook<Numbers>, Refusal>
+    ensures { image_answer_of m result ≡ image_ahead_of m b horizon }
+{
+    let settings = m.settings;
+    let numbers = image_reading::numbers_in(m);
+    let tried = hosting::advance(&settings, numbers, b);
+    if tried.refusal == 4 {
+        return Err(Refusal::Record);
+    }
+    if !ahead_looking::is_horizon(horizon) {
+        return Err(Refusal::Horizon);
+    }
+    let repeated = OnImage {
+        settings,
+        brought: b,
+    };
+    Ok(ahead_looking::look(&repeated, numbers, numbers.drive.kind == 0, horizon))
 }
 
 // The look ahead from an image: 4 where a tick of it is refused, then 6 by the horizon. It gives what the look from its record gives
@@ -126,14 +113,8 @@ pub fn image_ahead(m: Image, b: Brought, horizon: u32) -> ImageOutlook
     ensures lasting { is_accepted result.next ≡ is_accepted m }
     ensures calls { result.refusal ≡ 0 → result.next ≡ image_after m b (image_ticks_run horizon result) }
 {
-    let settings = m.settings;
-    let numbers = image_reading::numbers_in(m);
-    let tried = hosting::advance(&settings, numbers, b);
-    if tried.refusal == 4 {
-        return given_back(4, m);
+    match looked(m, b, horizon) {
+        Ok(o) => in_numbers(m.settings, o),
+        Err(refusal) => given_back(refusal, m),
     }
-    if (horizon < 1) | (horizon > LONGEST_HORIZON) {
-        return given_back(6, m);
-    }
-    look_on(settings, numbers, b, horizon)
 }

@@ -38,65 +38,53 @@ pub struct Brought {
     pub sensor: u8,
 }
 
-fn reading_of(s: Sample) -> Reading
-    ensures { result ≡ reading_of s }
-{
-    quality::reading_by(s.quality, s.value)
-}
+impl From<Sample> for Reading {
+    ghost from_gives = { λ s r. r ≡ reading_of s };
 
-fn phasor_of(re: Sample, im: Sample) -> Phasor
-    ensures { result ≡ phasor_of re im }
-{
-    let a = reading_of(re);
-    let b = reading_of(im);
-    Phasor { re: a, im: b }
-}
-
-fn phasors_of(b: Brought) -> Phasors
-    ensures { result ≡ phasors_of b }
-{
-    let a = b.u_ab_re;
-    let c = b.u_ab_im;
-    let d = b.i_bus_re;
-    let e = b.i_bus_im;
-    let f = b.i_coupler_re;
-    let g = b.i_coupler_im;
-    let u_ab = phasor_of(a, c);
-    let i_bus = phasor_of(d, e);
-    let i_coupler = phasor_of(f, g);
-    Phasors {
-        u_ab: u_ab,
-        i_bus: i_bus,
-        i_coupler: i_coupler,
+    fn from(s: Sample) -> Reading {
+        quality::reading_by(s.quality, s.value)
     }
 }
 
-pub fn input_of(b: Brought) -> Input
-    ensures { result ≡ input_of b }
+#[tactic(auto, unfolding(crate::specs::Bringing::phasor_of))]
+fn phasor_of(re: Sample, im: Sample) -> Phasor
+    ensures { result ≡ phasor_of re im }
 {
-    let a = b.u_ab;
-    let c = b.u0;
-    let d = b.u2;
-    let e = b.i_high;
-    let f = b.i_bus;
-    let g = b.i_coupler;
-    let u_ab = reading_of(a);
-    let u0 = reading_of(c);
-    let u2 = reading_of(d);
-    let i_high = reading_of(e);
-    let i_bus = reading_of(f);
-    let i_coupler = reading_of(g);
-    let phasors = phasors_of(b);
-    Input {
-        u_ab: u_ab,
-        u0: u0,
-        u2: u2,
-        i_high: i_high,
-        i_bus: i_bus,
-        i_coupler: i_coupler,
-        phasors: phasors,
-        contacts: b.contacts,
-        bcd: b.bcd,
-        sensor: b.sensor,
+    Phasor {
+        re: re.into(),
+        im: im.into(),
+    }
+}
+
+impl From<Brought> for Phasors {
+    ghost from_gives = { λ b p. p ≡ phasors_of b };
+
+    #[tactic(auto, unfolding(crate::specs::Bringing::phasors_of))]
+    fn from(b: Brought) -> Phasors {
+        Phasors {
+            u_ab: phasor_of(b.u_ab_re, b.u_ab_im),
+            i_bus: phasor_of(b.i_bus_re, b.i_bus_im),
+            i_coupler: phasor_of(b.i_coupler_re, b.i_coupler_im),
+        }
+    }
+}
+
+impl From<Brought> for Input {
+    ghost from_gives = { λ b i. i ≡ input_of b };
+
+    #[tactic(auto, unfolding(crate::specs::Bringing::input_of))]
+    fn from(b: Brought) -> Input {
+        Input {
+            u_ab: b.u_ab.into(),
+            u0: b.u0.into(),
+            u2: b.u2.into(),
+            i_high: b.i_high.into(),
+            i_bus: b.i_bus.into(),
+            i_coupler: b.i_coupler.into(),
+            phasors: b.into(),
+            contacts: b.contacts,
+            bcd: b.bcd,
+            sensor: b.sensor,
+        }
     }
 }

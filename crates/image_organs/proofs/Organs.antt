@@ -1,17 +1,16 @@
 -- The organs in numbers and back, and the loops over them.
 -- Assumes nothing.
-use mathlib.Core.Path.{◌≡◌, refl, sym}
+use mathlib.Core.Path.{◌≡◌, refl}
 use mathlib.Core.Bool.{Bool, true, false}
 use mathlib.Core.List.{List, [], ◌∷◌, map}
-use Prim.Native.Nat.{ℕ, ◌+◌, ◌<◌, ◌≤◌}
+use Prim.Native.Nat.{ℕ, ◌+◌, ◌<◌}
 use native.Mathlib.Omega.{arith}
-use borrow.Author.Tests.{le-leb, lt-leb}
 use lib.ListN.{length, get_or, set}
 use mir.Val.{bool_byte}
 use Rattle.common.specs.Places.{zip, every}
 use Rattle.organ.specs.declared.Organ.{Organ}
 use Rattle.common.proofs.Done.{done, done_on}
-use Rattle.common.proofs.Places.{rest, rest_on, rest_no, rest_none}
+use Rattle.std.specs.List.{list_all}
 use Rattle.common.proofs.Joined.{and_left, and_right}
 use Rattle.image_organs.specs.declared.OrganNumbers.{OrganNumbers}
 use Rattle.coding_flag.specs.Numbers.{bit_of, is_bit}
@@ -56,9 +55,6 @@ mark_at o p = mark_of o
 unfoldable pub count_at : Organ → Organ → ℕ
 count_at o p = count_of o
 
-unfoldable pub bit_at : ℕ → ℕ → Bool
-bit_at n p = is_bit n
-
 pub marks_all : (os : List Organ) → zip mark_at os os ≡ map mark_of os
 unfolding zip mark_at
 marks_all [] = refl
@@ -68,11 +64,6 @@ pub counts_all : (os : List Organ) → zip count_at os os ≡ map count_of os
 unfolding zip count_at
 counts_all [] = refl
 counts_all (o ∷ os) = rw (counts_all os)
-
-pub bits_all : (ms : List ℕ) → zip bit_at ms ms ≡ map is_bit ms
-unfolding zip bit_at
-bits_all [] = refl
-bits_all (m ∷ ms) = rw (bits_all ms)
 
 pub numbers_made : (os : List Organ) (ms cs : List ℕ) → ms ≡ zip mark_at os os → cs ≡ zip count_at os os
     → ◌≡◌ {A = OrganNumbers} (record { marks = ms; counts = cs }) (organ_numbers os)
@@ -93,19 +84,8 @@ module _ (rs : List ℕ) (os : List Organ) (cs : List ℕ) (i : ℕ) (d : Organ)
   unfolding count_at count_of
   count_made p = done_on count_at rs os os cs _ i d d p refl h k k
 
--- the loop that stops at the first number above 1
-module _ (ms : List ℕ) where
-  pub bits_start : rest bit_at 0 ms ms ≡ are_marks ms
-  unfolding rest are_marks
-  bits_start = rw (bits_all ms)
-
-  pub bits_no : (i d : ℕ) → rest bit_at i ms ms ≡ are_marks ms → 1 < get_or ms i d → i < length ms → false ≡ are_marks ms
-  unfolding bit_at
-  bits_no i d p q h = rest_no bit_at ms ms (are_marks ms) false i d d p (sym (lt-leb (get_or ms i d) 1 q)) refl h h
-
-  pub bits_on : (i d : ℕ) → rest bit_at i ms ms ≡ are_marks ms → get_or ms i d ≤ 1 → i < length ms → rest bit_at (i + 1) ms ms ≡ are_marks ms
-  unfolding bit_at
-  bits_on i d p q h = rest_on bit_at ms ms (are_marks ms) true i d d p (sym (le-leb (get_or ms i d) 1 q)) refl h h
-
-  pub bits_none : (i n : ℕ) → rest bit_at i ms ms ≡ are_marks ms → n ≤ i → length ms ≡ n → true ≡ are_marks ms
-  bits_none i n p h k = rest_none bit_at ms ms (are_marks ms) i n p h k k
+-- the test of each place, as the library asks it
+pub all_bits : (ms : List ℕ) → list_all is_bit ms ≡ are_marks ms
+unfolding are_marks every
+all_bits [] = refl
+all_bits (m ∷ ms) = rw (all_bits ms)

@@ -6,7 +6,7 @@ ghost use Rattle.image_organs.specs.Places.{organ_numbers, organ_of, organs_of, 
 
 use organ::Organ;
 
-// The marks, 0 or 1, and the counts.
+// The marks, 0 or 1, and the counts: two arrays, as the C interface's image has them.
 #[derive(Clone, Copy)]
 pub struct OrganNumbers {
     pub marks: [u32; 7],
@@ -18,24 +18,20 @@ pub fn organ_numbers(organs: [Organ; 7]) -> OrganNumbers
 {
     let mut marks = [0u32; 7];
     let mut counts = [0u32; 7];
-    let mut i: usize = 0;
-    while i < 7 {
+    for i in 0..7 {
         marks[i] = organs[i].marked as u32;
         counts[i] = organs[i].count;
-        i += 1;
     }
-    OrganNumbers {
-        marks: marks,
-        counts: counts,
-    }
+    OrganNumbers { marks, counts }
 }
 
+#[tactic(auto, unfolding(crate::specs::Places::organ_of))]
 fn organ_of(mark: u32, count: u32) -> Organ
     ensures { result ≡ organ_of mark count }
 {
     Organ {
         marked: mark == 1,
-        count: count,
+        count,
     }
 }
 
@@ -47,11 +43,8 @@ pub fn organs_of(marks: [u32; 7], counts: [u32; 7]) -> [Organ; 7]
         count: 0,
     };
     let mut organs = [cleared; 7];
-    let mut i: usize = 0;
-    while i < 7 {
-        let o = organ_of(marks[i], counts[i]);
-        organs[i] = o;
-        i += 1;
+    for i in 0..7 {
+        organs[i] = organ_of(marks[i], counts[i]);
     }
     organs
 }
@@ -60,12 +53,5 @@ pub fn organs_of(marks: [u32; 7], counts: [u32; 7]) -> [Organ; 7]
 pub fn are_marks(marks: [u32; 7]) -> bool
     ensures { result ≡ are_marks marks }
 {
-    let mut i: usize = 0;
-    while i < 7 {
-        if 1 < marks[i] {
-            return false;
-        }
-        i += 1;
-    }
-    true
+    marks.iter().all(|mark| *mark <= 1)
 }

@@ -5,7 +5,8 @@ use mathlib.Core.List.{List}
 use Rattle.organ.specs.declared.Organ.{Organ}
 use Rattle.drive.specs.declared.Drive.{Drive}
 use Rattle.fault.specs.declared.Fault.{Fault}
-use Rattle.ways.specs.declared.Way.{Way}
+use Rattle.std.specs.Prelude.{Option}
+use Rattle.ways.specs.declared.Direction.{Direction}
 use Rattle.command.specs.declared.Memory.{Memory}
 use Rattle.record.specs.declared.State.{State}
 use Rattle.coding_ways.specs.Numbers.{way_of}
@@ -15,7 +16,7 @@ use Rattle.image_organs.specs.Places.{organs_of}
 use Rattle.image.specs.declared.Numbers.{Numbers}
 use Rattle.image.specs.Images.{state_of}
 
-module _ (n : Numbers) {os : List Organ} {d : Drive} {f : Fault} {m : Memory} {last : Way} where
+module _ (n : Numbers) {os : List Organ} {d : Drive} {f : Option Fault} {m : Memory} {last : Option Direction} where
   pub state_made : os ≡ organs_of n.organ_marks n.organ_counts → d ≡ drive_of n.drive → f ≡ fault_of n.fault
       → m ≡ (state_of n).memory
       → last ≡ way_of n.last

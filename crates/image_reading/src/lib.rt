@@ -14,15 +14,11 @@ use record::State;
 pub fn is_state(n: Numbers) -> bool
     ensures { result ≡ is_state n }
 {
-    let numbers = n.organ_marks;
-    let d = n.drive;
-    let w = n.wait;
-    let k = n.keys;
-    let marks = image_organs::are_marks(numbers);
-    let drive = coding_drive::is_drive(d);
-    let wait = coding_wait::is_wait(w);
+    let marks = image_organs::are_marks(n.organ_marks);
+    let drive = coding_drive::is_drive(n.drive);
+    let wait = coding_wait::is_wait(n.wait);
     let ways = (n.repeat <= 2) & (n.last <= 2) & (n.remembered <= 2);
-    let keys = coding_keys::are_keys(k);
+    let keys = coding_keys::are_keys(n.keys);
     marks & drive & (n.fault <= 4) & wait & ways & keys
 }
 
@@ -30,17 +26,11 @@ pub fn is_state(n: Numbers) -> bool
 fn memory_of(n: Numbers) -> Memory
     ensures { result ≡ (state_of n).memory }
 {
-    let w = n.wait;
-    let k = n.keys;
-    let wait = coding_wait::wait_of(w);
-    let repeat = coding_ways::way_of(n.repeat);
-    let remembered = coding_ways::way_of(n.remembered);
-    let keys = coding_keys::keys_of(k);
     Memory {
-        wait: wait,
-        repeat: repeat,
-        keys: keys,
-        remembered: remembered,
+        wait: n.wait.into(),
+        repeat: coding_ways::way_of(n.repeat),
+        keys: n.keys.into(),
+        remembered: coding_ways::way_of(n.remembered),
     }
 }
 
@@ -48,24 +38,17 @@ fn memory_of(n: Numbers) -> Memory
 pub fn state_of(n: Numbers) -> State
     ensures { result ≡ state_of n }
 {
-    let marks = n.organ_marks;
-    let counts = n.organ_counts;
-    let d = n.drive;
-    let organs = image_organs::organs_of(marks, counts);
-    let drive = coding_drive::drive_of(d);
-    let fault = coding_fault::fault_of(n.fault);
-    let memory = memory_of(n);
-    let last = coding_ways::way_of(n.last);
+    let organs = image_organs::organs_of(n.organ_marks, n.organ_counts);
     State {
-        organs: organs,
-        drive: drive,
+        organs,
+        drive: coding_drive::drive_of(n.drive),
         latch: Latch {
-            fault: fault,
+            fault: coding_fault::fault_of(n.fault),
             age: n.fault_age,
         },
-        memory: memory,
+        memory: memory_of(n),
         wear: Wear {
-            last: last,
+            last: coding_ways::way_of(n.last),
             operations: n.operations,
             counted_tap: n.counted_tap,
         },
@@ -76,23 +59,20 @@ pub fn state_of(n: Numbers) -> State
 pub fn numbers_in(m: Image) -> Numbers
     ensures { result ≡ numbers_in m }
 {
-    let marks = m.organ_marks;
-    let counts = m.organ_counts;
-    let drive = m.drive;
-    let wait = m.wait;
-    let keys = m.keys;
+    let organ_marks = m.organ_marks;
+    let organ_counts = m.organ_counts;
     Numbers {
-        organ_marks: marks,
-        organ_counts: counts,
-        drive: drive,
+        organ_marks,
+        organ_counts,
+        drive: m.drive,
         fault: m.fault,
         fault_age: m.fault_age,
-        wait: wait,
+        wait: m.wait,
         repeat: m.repeat,
         last: m.last,
         counted_tap: m.counted_tap,
         operations: m.operations,
-        keys: keys,
+        keys: m.keys,
         remembered: m.remembered,
     }
 }

@@ -11,18 +11,10 @@ use slots::SLOTS;
 fn way_numbers(m: State) -> WayNumbers
     ensures { result ≡ way_numbers m }
 {
-    let memory = m.memory;
-    let wear = m.wear;
-    let again = memory.repeat;
-    let before = wear.last;
-    let press = memory.remembered;
-    let repeat = coding_ways::way_number(again);
-    let last = coding_ways::way_number(before);
-    let remembered = coding_ways::way_number(press);
     WayNumbers {
-        repeat: repeat,
-        last: last,
-        remembered: remembered,
+        repeat: coding_ways::way_number(m.memory.repeat),
+        last: coding_ways::way_number(m.wear.last),
+        remembered: coding_ways::way_number(m.memory.remembered),
     }
 }
 
@@ -30,34 +22,22 @@ fn way_numbers(m: State) -> WayNumbers
 pub fn numbers_of(m: State) -> Numbers
     ensures { result ≡ numbers_of m }
 {
-    let organs = m.organs;
-    let d = m.drive;
-    let latch = m.latch;
-    let f = latch.fault;
-    let memory = m.memory;
-    let w = memory.wait;
-    let k = memory.keys;
-    let wear = m.wear;
-    let numbers = image_organs::organ_numbers(organs);
-    let marks = numbers.marks;
-    let counts = numbers.counts;
-    let drive = coding_drive::drive_image(d);
-    let fault = coding_fault::fault_number(f);
-    let wait = coding_wait::wait_image(w);
+    let numbers = image_organs::organ_numbers(m.organs);
+    let organ_marks = numbers.marks;
+    let organ_counts = numbers.counts;
     let ways = way_numbers(m);
-    let keys = coding_keys::key_image(k);
     Numbers {
-        organ_marks: marks,
-        organ_counts: counts,
-        drive: drive,
-        fault: fault,
-        fault_age: latch.age,
-        wait: wait,
+        organ_marks,
+        organ_counts,
+        drive: m.drive.into(),
+        fault: coding_fault::fault_number(m.latch.fault),
+        fault_age: m.latch.age,
+        wait: m.memory.wait.into(),
         repeat: ways.repeat,
         last: ways.last,
-        counted_tap: wear.counted_tap,
-        operations: wear.operations,
-        keys: keys,
+        counted_tap: m.wear.counted_tap,
+        operations: m.wear.operations,
+        keys: m.memory.keys.into(),
         remembered: ways.remembered,
     }
 }
@@ -66,24 +46,21 @@ pub fn numbers_of(m: State) -> Numbers
 pub fn image_with(settings: [u32; SLOTS], n: Numbers) -> Image
     ensures { result ≡ image_with settings n }
 {
-    let marks = n.organ_marks;
-    let counts = n.organ_counts;
-    let drive = n.drive;
-    let wait = n.wait;
-    let keys = n.keys;
+    let organ_marks = n.organ_marks;
+    let organ_counts = n.organ_counts;
     Image {
-        settings: settings,
-        organ_marks: marks,
-        organ_counts: counts,
-        drive: drive,
+        settings,
+        organ_marks,
+        organ_counts,
+        drive: n.drive,
         fault: n.fault,
         fault_age: n.fault_age,
-        wait: wait,
+        wait: n.wait,
         repeat: n.repeat,
         last: n.last,
         counted_tap: n.counted_tap,
         operations: n.operations,
-        keys: keys,
+        keys: n.keys,
         remembered: n.remembered,
     }
 }
@@ -93,8 +70,5 @@ pub fn image_of(r: Regulator) -> Image
     ensures each { result ≡ image_of r }
     ensures back { record_of result ≡ taken_of r }
 {
-    let settings = r.settings;
-    let state = r.state;
-    let numbers = numbers_of(state);
-    image_with(settings, numbers)
+    image_with(r.settings, numbers_of(r.state))
 }

@@ -1,108 +1,130 @@
 -- A number that is read group by group.
 -- Assumes nothing.
-use mathlib.Core.Path.{◌≡◌, refl, sym, ◌∙◌, ap}
+use mathlib.Core.Path.{◌≡◌, refl, sym, ◌∙◌, ap, subst}
 use mathlib.Core.List.{List, [], ◌∷◌}
 use Prim.Native.Nat.{ℕ, zero, suc, ◌+◌, ◌-◌, ◌*◌, ◌%◌, ◌^◌, ◌<◌, ◌≤◌}
 use native.Mathlib.Nat.{pow-suc, pow-le-pow_right}
-use native.Mathlib.Numerals.{add-one}
 use native.Mathlib.Omega.{arith}
 use borrow.Author.Tests.{lt-ltb, le-ltb, ltb-true, eq-eqb, ne_eqb}
 use lib.Dec.{ltb, eqb}
-use lib.ListN.{length, get_or, drop, drop_of_length-le}
-use lib.Seq.{drop-cons}
+use lib.ListN.{length}
+use Rattle.std.specs.Prelude.{Option, None, Some, IfSome}
+use Rattle.std.proofs.lemmas.Option.{none-some}
 use Rattle.common.specs.Choice.{choose}
 use Rattle.common.proofs.Cases.{yes, no, chosen}
 use Rattle.journal.specs.declared.Number.{Number}
-use Rattle.journal.specs.Reading.{no_number, group_before, decoded_up_to, first_number}
+use Rattle.journal.specs.Reading.{group_before, decoded_up_to, if_small, first_number}
+
+pub none_before : (b : ℕ) → group_before b None ≡ None
+unfolding group_before
+none_before b = refl
 
 -- one group more
 module _ (b : ℕ) (r : Number) where
-  pub more_none : r.value ≡ 0 → no_number ≡ group_before b r
+  pub more_none : r.value ≡ 0 → None ≡ group_before b (Some r)
   unfolding group_before
   more_none h = yes _ _ _ _ (eq-eqb r.value 0 h) refl
 
-  pub more_some : {n : ℕ} → (r.value ≡ 0 → ⊥) → n ≡ b → ◌≡◌ {A = Number} (record { value = n % 128 + 128 * r.value; count = r.count + 1 }) (group_before b r)
+  pub more_some : (r.value ≡ 0 → ⊥) → Some (record { value = b % 128 + 128 * r.value; count = r.count + 1 }) ≡ group_before b (Some r)
   unfolding group_before
-  more_some h e = rw e (no _ _ _ _ (ne_eqb r.value 0 h) refl)
-
-none_of_none : (k : ℕ) → decoded_up_to k [] ≡ no_number
-unfolding decoded_up_to
-none_of_none zero = refl
-none_of_none (suc k) = refl
-
-decode_at : (k at : ℕ) (s : List ℕ) → 0 < k → at < length s
-    → decoded_up_to k (drop at s) ≡ choose (ltb (get_or s at 0) 128) (record { value = get_or s at 0; count = 1 }) (group_before (get_or s at 0) (decoded_up_to (k - 1) (drop (at + 1) s)))
-unfolding decoded_up_to
-decode_at zero at s p h = absurd (omega arith)
-decode_at (suc k) at s p h =
-    let e : suc k - 1 ≡ k = omega arith in
-    rw (drop-cons s at 0 h, e, add-one)
+  more_some h = no _ _ _ _ (ne_eqb r.value 0 h) refl
 
 -- what each way through `groups` answers
-module _ (k at : ℕ) (s : List ℕ) where
-  pub no_groups : k ≡ 0 → no_number ≡ decoded_up_to k (drop at s)
-  unfolding decoded_up_to
-  no_groups e = rw e
+pub no_groups : (bs : List ℕ) {k : ℕ} → k ≡ 0 → None ≡ decoded_up_to k bs
+unfolding decoded_up_to
+no_groups bs e = rw e
 
-  pub no_bytes : length s ≤ at → no_number ≡ decoded_up_to k (drop at s)
-  no_bytes h = rw (drop_of_length-le s h) (sym (none_of_none k))
+pub no_bytes : (k : ℕ) (bs : List ℕ) → length bs ≡ 0 → None ≡ decoded_up_to k bs
+unfolding decoded_up_to
+no_bytes zero bs e = refl
+no_bytes (suc k) [] e = refl
+no_bytes (suc k) (b ∷ bs) e = absurd (omega arith)
 
-  module _ (p : k ≡ 0 → ⊥) (h : at < length s) where
-    pub last_group : {n : ℕ} → n ≡ get_or s at 0 → get_or s at 0 < 128 → ◌≡◌ {A = Number} (record { value = n; count = 1 }) (decoded_up_to k (drop at s))
-    last_group e l = rw e (yes _ _ _ _ (lt-ltb (get_or s at 0) 128 l) refl ∙ sym (decode_at k at s (omega arith) h))
+decode_at : (k b : ℕ) (bs : List ℕ) → 0 < k
+    → decoded_up_to k (b ∷ bs) ≡ choose (ltb b 128) (Some (record { value = b; count = 1 })) (group_before b (decoded_up_to (k - 1) bs))
+unfolding decoded_up_to
+decode_at zero b bs p = absurd (omega arith)
+decode_at (suc k) b bs p = let e : suc k - 1 ≡ k = omega arith in rw e
 
-    pub first_group : {x r : Number} → x ≡ decoded_up_to (k - 1) (drop (at + 1) s) → r ≡ group_before (get_or s at 0) x → 128 ≤ get_or s at 0 → r ≡ decoded_up_to k (drop at s)
-    first_group e o l = o ∙ ap (group_before (get_or s at 0)) e ∙ no _ _ _ _ (le-ltb (get_or s at 0) 128 l) refl ∙ sym (decode_at k at s (omega arith) h)
+module _ (k b : ℕ) (bs : List ℕ) (p : k ≡ 0 → ⊥) where
+  pub last_group : b < 128 → Some (record { value = b; count = 1 }) ≡ decoded_up_to k (b ∷ bs)
+  last_group l = yes _ _ _ _ (lt-ltb b 128 l) refl ∙ sym (decode_at k b bs (omega arith))
+
+  pub first_group : {x : Option Number} → x ≡ decoded_up_to (k - 1) bs → 128 ≤ b → group_before b x ≡ decoded_up_to k (b ∷ bs)
+  first_group e l = ap (group_before b) e ∙ no _ _ _ _ (le-ltb b 128 l) refl ∙ sym (decode_at k b bs (omega arith))
 
 -- how large, and how long
 pub record Fine (k : ℕ) (bs : List ℕ) (r : Number) : Type 0 where
   pub small : r.value < 128 ^ k
   pub few : r.count ≤ k
   pub inside : r.count ≤ length bs
-  pub some : (r.value ≡ 0 → ⊥) → 0 < r.count
+  pub some : 0 < r.count
 
-pub fine : (k : ℕ) (bs : List ℕ) → Fine k bs (decoded_up_to k bs)
-unfolding decoded_up_to group_before
-fine zero bs = record { small = omega arith; few = omega arith; inside = omega arith; some = λ z. absurd (z refl) }
-fine (suc k) [] =
-    let g : Fine k [] (decoded_up_to k []) = fine k [] in
-    record { small = omega (arith, g.small, pow-suc 128 k); few = omega arith; inside = omega arith; some = λ z. absurd (z refl) }
-fine (suc k) (b ∷ bs) =
-    let g : Fine k bs (decoded_up_to k bs) = fine k bs in
-    let r : Number = decoded_up_to k bs in
+more_fine : (k b : ℕ) (bs : List ℕ) (o : Option Number) → IfSome o (Fine k bs) → IfSome (group_before b o) (Fine (suc k) (b ∷ bs))
+unfolding group_before
+more_fine k b bs None g = tt
+more_fine k b bs (Some r) g =
     let e : 128 ^ suc k ≡ 128 ^ k * 128 = pow-suc 128 k in
-    chosen (Fine (suc k) (b ∷ bs)) (ltb b 128) (record { value = b; count = 1 }) (group_before b r)
-    (λ t. record { small = omega (arith, g.small, e, ltb-true b 128 t); few = omega arith; inside = omega arith; some = λ z. omega arith })
-    (λ _. chosen (Fine (suc k) (b ∷ bs)) (eqb r.value 0) no_number (record { value = b % 128 + 128 * r.value; count = r.count + 1 })
-    (λ _. record { small = omega (arith, g.small, e); few = omega arith; inside = omega arith; some = λ z. absurd (z refl) })
-    (λ _. record { small = omega (arith, g.small, e); few = omega (arith, g.few); inside = omega (arith, g.inside); some = λ z. omega arith }))
+    chosen (λ (o : Option Number). IfSome o (Fine (suc k) (b ∷ bs))) (eqb r.value 0) None (Some (record { value = b % 128 + 128 * r.value; count = r.count + 1 }))
+    (λ _. tt)
+    (λ _. record { small = omega (arith, g.small, e); few = omega (arith, g.few); inside = omega (arith, g.inside); some = omega arith })
 
-pub more_fits : (k : ℕ) (bs : List ℕ) {r : Number} → r ≡ decoded_up_to k bs → k ≤ 4 → (r.value < 268435456) × (r.count < 5)
-more_fits k bs e h =
-    let g : Fine k bs (decoded_up_to k bs) = fine k bs in
-    let p : 128 ^ k ≤ 128 ^ 4 = pow-le-pow_right (omega arith) h in
-    rw e (omega (arith, g.small, p), omega (arith, g.few))
+pub fine : (k : ℕ) (bs : List ℕ) → IfSome (decoded_up_to k bs) (Fine k bs)
+unfolding decoded_up_to
+fine zero bs = tt
+fine (suc k) [] = tt
+fine (suc k) (b ∷ bs) =
+    let e : 128 ^ suc k ≡ 128 ^ k * 128 = pow-suc 128 k in
+    let z : 0 ≤ k = omega arith in
+    let p : 128 ^ 0 ≤ 128 ^ k = pow-le-pow_right (omega arith) z in
+    chosen (λ (o : Option Number). IfSome o (Fine (suc k) (b ∷ bs))) (ltb b 128) (Some (record { value = b; count = 1 })) (group_before b (decoded_up_to k bs))
+    (λ t. record { small = omega (arith, p, e, ltb-true b 128 t); few = omega arith; inside = omega arith; some = omega arith })
+    (λ _. more_fine k b bs (decoded_up_to k bs) (fine k bs))
+
+pub more_fits : (k : ℕ) (bs : List ℕ) {r : Number} → Some r ≡ decoded_up_to k bs → k ≤ 4 → (r.value < 268435456) × (r.count < 5)
+more_fits k bs {r} e h =
+    let g : Fine k bs r = subst (λ (o : Option Number). IfSome o (Fine k bs)) (sym e) (fine k bs) in
+    let p : 128 ^ k ≤ 128 ^ 4 = pow-le-pow_right (omega arith) h in (omega (arith, g.small, p), omega (arith, g.few))
 
 -- below 2^32
+pub record IsNumber (bs : List ℕ) (n : Number) : Type 0 where
+  pub small : n.value < 4294967296
+  pub some : 0 < n.count
+  pub inside : n.count ≤ length bs
+
+small_number : (bs : List ℕ) (o : Option Number) → IfSome o (Fine 5 bs) → IfSome (if_small o) (IsNumber bs)
+small_number bs None g = tt
+small_number bs (Some r) g =
+    chosen (λ (o : Option Number). IfSome o (IsNumber bs)) (ltb r.value 4294967296) (Some r) None
+    (λ t. record { small = ltb-true _ _ t; some = g.some; inside = g.inside })
+    (λ _. tt)
+
+small_is : (o : Option Number) {n : Number} → if_small o ≡ Some n → o ≡ Some n
+small_is None e = e
+small_is (Some r) {n} e =
+    chosen (λ (o : Option Number). o ≡ Some n → Some r ≡ Some n) (ltb r.value 4294967296) (Some r) None (λ _ p. p) (λ _ p. absurd (none-some n p)) e
+
 module _ (bs : List ℕ) where
-  pub numbered : {n : Number} → n ≡ decoded_up_to 5 bs → n.value < 4294967296 → n ≡ first_number bs
+  pub no_number : None ≡ decoded_up_to 5 bs → None ≡ first_number bs
   unfolding first_number
-  numbered e h = yes _ _ _ _ (ap (λ (x : Number). ltb x.value 4294967296) (sym e) ∙ lt-ltb _ _ h) e
+  no_number e = ap if_small e
 
-  pub too_large : {n : Number} → n ≡ decoded_up_to 5 bs → 4294967296 ≤ n.value → no_number ≡ first_number bs
+  pub numbered : {n : Number} → Some n ≡ decoded_up_to 5 bs → n.value < 4294967296 → Some n ≡ first_number bs
   unfolding first_number
-  too_large e h = no _ _ _ _ (ap (λ (x : Number). ltb x.value 4294967296) (sym e) ∙ le-ltb _ _ h) refl
+  numbered {n} e h = yes _ _ _ _ (lt-ltb n.value 4294967296 h) refl ∙ ap if_small e
 
-  pub below : (first_number bs).value < 4294967296
+  pub too_large : {n : Number} → Some n ≡ decoded_up_to 5 bs → 4294967296 ≤ n.value → None ≡ first_number bs
   unfolding first_number
-  below =
-      chosen (λ (x : Number). x.value < 4294967296) (ltb (decoded_up_to 5 bs).value 4294967296) (decoded_up_to 5 bs) no_number
-      (λ t. ltb-true _ _ t)
-      (λ _. omega arith)
+  too_large {n} e h = no _ _ _ _ (le-ltb n.value 4294967296 h) refl ∙ ap if_small e
 
-  pub inside : (first_number bs).count ≤ length bs
+  pub is_number : {n : Number} → Some n ≡ first_number bs → IsNumber bs n
   unfolding first_number
-  inside =
-      chosen (λ (x : Number). x.count ≤ length bs) (ltb (decoded_up_to 5 bs).value 4294967296) (decoded_up_to 5 bs) no_number
-      (λ _. (fine 5 bs).inside)
-      (λ _. omega arith)
+  is_number e = subst (λ (o : Option Number). IfSome o (IsNumber bs)) (sym e) (small_number bs (decoded_up_to 5 bs) (fine 5 bs))
+
+  pub decoded_is : {n : Number} → first_number bs ≡ Some n → decoded_up_to 5 bs ≡ Some n
+  unfolding first_number
+  decoded_is e = small_is (decoded_up_to 5 bs) e
+
+pub ruleset before = (more_none, more_some)
+
+pub ruleset firsts = (no_number, numbered, too_large, is_number)

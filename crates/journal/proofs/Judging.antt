@@ -1,18 +1,18 @@
 -- The rules, number by number.
 -- Assumes nothing.
-use mathlib.Core.Path.{◌≡◌, sym}
-use mathlib.Core.Bool.{Bool, true, not, ◌&&◌, ◌||◌}
+use mathlib.Core.Path.{◌≡◌, refl, sym, ◌∙◌}
+use mathlib.Core.Bool.{Bool, true, false}
 use mathlib.Core.List.{List}
 use Prim.Native.Nat.{ℕ, ◌≤◌}
 use native.Mathlib.Omega.{arith}
-use lib.Dec.{eqb, leb}
 use lib.ListN.{length, get_or, set, get_or-eq_default}
 use lib.Seq.{set_out}
+use Rattle.std.specs.Prelude.{None, Some}
+use Rattle.common.proofs.Cases.{yes, no}
 use Rattle.journal.specs.declared.Progress.{Progress}
-use Rattle.journal.specs.declared.Judgement.{Judgement}
+use Rattle.journal.specs.declared.Turn.TheVariants.{Field}
 use Rattle.showing.specs.Showing.{field_count}
-use Rattle.journal.specs.Stamps.{is_later}
-use Rattle.journal.specs.Rules.{highest_value, last_value, judged_stamp, judged_value}
+use Rattle.journal.specs.Rules.{is_last, may_follow, judged_stamp}
 
 pub no_field : (l : List ℕ) (f : ℕ) → length l ≡ field_count → field_count ≤ f → 0 ≡ get_or l f 0
 no_field l f e h = sym (get_or-eq_default l 0 (omega arith))
@@ -21,18 +21,11 @@ pub not_stored : (l : List ℕ) (f n : ℕ) → length l ≡ field_count → fie
 not_stored l f n e h = sym (set_out l f n (omega arith))
 
 module _ (s : Progress) (n : ℕ) where
-  pub stamp_is : {b : Bool} → b ≡ is_later s.stamp n
-      → ◌≡◌ {A = Judgement} (record {
-        keeps = not s.started || (s.started && eqb n s.stamp) || b;
-        next = record { turn = 1; started = true; stamp = n; same = s.started && eqb n s.stamp; field = s.field; last = s.last };
-      }) (judged_stamp s n)
+  pub stamp_is : {b c : Bool} → b ≡ may_follow s.stamp n → c ≡ is_last s.stamp n → b ≡ true
+      → Some (record { turn = Field; stamp = Some n; same = c; field = s.field; last = s.last }) ≡ judged_stamp s n
   unfolding judged_stamp
-  stamp_is e = rw e
+  stamp_is e o t = rw o (yes _ _ _ _ (sym e ∙ t) refl)
 
-  pub value_is : {l : List ℕ} {m b : ℕ} → l ≡ set s.last s.field n → b ≡ last_value s → m ≡ highest_value s.field
-      → ◌≡◌ {A = Judgement} (record {
-        keeps = leb n m && not (eqb n b);
-        next = record { turn = 0; started = s.started; stamp = s.stamp; same = s.same; field = s.field; last = l };
-      }) (judged_value s n)
-  unfolding judged_value
-  value_is e o p = rw (e, o, p)
+  pub stamp_not : {b : Bool} → b ≡ may_follow s.stamp n → b ≡ false → None ≡ judged_stamp s n
+  unfolding judged_stamp
+  stamp_not e t = no _ _ _ _ (sym e ∙ t) refl

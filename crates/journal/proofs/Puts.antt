@@ -1,8 +1,9 @@
 -- Text that is written group by group and number by number.
 -- Assumes nothing.
 use mathlib.Core.Path.{◌≡◌, refl, sym, ◌∙◌, ap}
-use mathlib.Core.Bool.{Bool, true, false}
+use mathlib.Core.Bool.{Bool, true, false, true≢false}
 use mathlib.Core.List.{List, [], ◌∷◌, ◌++◌}
+use mathlib.Core.Logic.{⊎_elim}
 use Prim.Native.Nat.{ℕ, suc, ◌+◌, ◌-◌, ◌/◌, ◌%◌, ◌<◌, ◌≤◌}
 use native.Mathlib.Nat.{zero-add}
 use native.Mathlib.Numerals.{add-one}
@@ -11,13 +12,17 @@ use borrow.Author.Tests.{lt-leb, le-leb, leb-true}
 use lib.Dec.{leb}
 use lib.ListN.{length, get_or, set, drop, length-append, length-set, drop_of_length-le}
 use lib.Seq.{sets, sets-eq, drop-cons}
+use Rattle.std.specs.Prelude.{Result, Ok, Err, ⊤, is_ok}
+use Rattle.common.specs.Choice.{choose}
 use Rattle.common.specs.Written.{Written}
 use Rattle.common.proofs.Cases.{yes, no}
+use Rattle.common.proofs.Joined.{split}
 use Rattle.common.proofs.Written.{sets-append, written_length}
 use Rattle.journal.specs.declared.TextWritten.{TextWritten}
-use Rattle.journal.specs.declared.Verdict.{Verdict}
+use Rattle.journal.specs.declared.Refused.{Refused}
+use Rattle.journal.specs.declared.Refused.TheVariants.{TooShort}
 use Rattle.journal.specs.Rules.{journal_start, checked_from}
-use Rattle.journal.specs.Texts.{groups_of, journal_text, writer_answer, buffer_after}
+use Rattle.journal.specs.Texts.{groups_of, journal_text, text_written, writer_answer, buffer_after}
 use Rattle.journal.proofs.Groups.{short, long, some_group}
 
 -- the groups before `rest` are written: writing the rest gives the number
@@ -120,30 +125,54 @@ module _ (ns old : List ℕ) where
         record { bytes = rw e at g.bytes; past = omega (arith, g.past, ap length e) }
 
 -- the whole answer
-module _ (ns old : List ℕ) {k : Verdict} (c : k ≡ checked_from journal_start ns) where
-  wholes : (checked_from journal_start ns).whole ≡ k.whole
-  wholes = ap (λ (x : Verdict). x.whole) (sym c)
+module _ (ns old : List ℕ) where
+  pub refused : {i : ℕ} → Err i ≡ checked_from journal_start ns
+      → (◌≡◌ {A = TextWritten} (record { refusal = 8; place = i; length = 0 }) (writer_answer ns (length old))) × (old ≡ buffer_after ns old)
+  unfolding writer_answer buffer_after choose
+  refused c = (rw (← c) refl, rw (← c) refl)
 
-  pub refused : k.whole ≡ false
-      → (◌≡◌ {A = TextWritten} (record { refusal = 8; place = k.place; length = 0 }) (writer_answer ns (length old))) × (old ≡ buffer_after ns old)
-  unfolding writer_answer buffer_after
-  refused w = (rw (ap (λ (x : Verdict). x.place) c) (no _ _ _ _ (wholes ∙ w) refl), no _ _ _ _ (wholes ∙ w) refl)
-
-  module _ (w : k.whole ≡ true) {b : Bool} (e : b ≡ leb (length (journal_text ns)) (length old)) where
+  module _ (c : Ok tt ≡ checked_from journal_start ns) {b : Bool} (e : b ≡ leb (length (journal_text ns)) (length old)) where
     pub wrote : {new : List ℕ} {r : ℕ} → b ≡ true → Written old 0 (journal_text ns) new r
         → (◌≡◌ {A = TextWritten} (record { refusal = 0; place = 0; length = r }) (writer_answer ns (length old))) × (new ≡ buffer_after ns old)
     unfolding writer_answer buffer_after
     wrote {new} {r} t p =
         let z : leb (length (journal_text ns)) (length old) ≡ true = sym e ∙ t in
         let q : r ≡ length (journal_text ns) = omega (arith, p.past) in (
-          rw q (yes _ _ _ _ (wholes ∙ w) (yes _ _ _ _ z refl)),
-          yes _ _ _ _ (wholes ∙ w) (yes _ _ _ _ z (p.bytes ∙ sets-eq (journal_text ns) old 0 (omega (arith, leb-true (length (journal_text ns)) (length old) z)) ∙ rw zero-add)),
+          rw (q, ← c) (yes _ _ _ _ z refl),
+          rw (← c) (yes _ _ _ _ refl (yes _ _ _ _ z (p.bytes ∙ sets-eq (journal_text ns) old 0 (omega (arith, leb-true (length (journal_text ns)) (length old) z)) ∙ rw zero-add))),
         )
 
     pub unwritten : b ≡ false
         → (◌≡◌ {A = TextWritten} (record { refusal = 7; place = 0; length = 0 }) (writer_answer ns (length old))) × (old ≡ buffer_after ns old)
     unfolding writer_answer buffer_after
-    unwritten t = (yes _ _ _ _ (wholes ∙ w) (no _ _ _ _ (sym e ∙ t) refl), yes _ _ _ _ (wholes ∙ w) (no _ _ _ _ (sym e ∙ t) refl))
+    unwritten t = (rw (← c) (no _ _ _ _ (sym e ∙ t) refl), rw (← c) (yes _ _ _ _ refl (no _ _ _ _ (sym e ∙ t) refl)))
+
+-- the same where the answer of the check goes on in another error type
+ok_is : (r : Result ⊤ ℕ) → is_ok r ≡ true → Ok tt ≡ r
+ok_is (Ok u) k = refl
+ok_is (Err i) k = absurd (true≢false (sym k))
+
+module _ (ns old : List ℕ) where
+  pub refused_text : is_ok (checked_from journal_start ns) ≡ false → old ≡ buffer_after ns old
+  unfolding buffer_after
+  refused_text k = no _ _ _ _ k refl
+
+  pub unwritten_text : leb (length (journal_text ns)) (length old) ≡ false → old ≡ buffer_after ns old
+  unfolding buffer_after
+  unwritten_text t =
+      ⊎_elim (λ k. yes _ _ _ _ k (no _ _ _ _ t refl)) (λ k. no _ _ _ _ k refl) (split (is_ok (checked_from journal_start ns)))
+
+  module _ {kept : Result ⊤ ℕ} {m : Result ⊤ Refused} {u : ⊤} {b : Bool} (c : kept ≡ checked_from journal_start ns) (v : is_ok m ≡ is_ok kept) (w : m ≡ Ok u) (e : b ≡ leb (length (journal_text ns)) (length old)) where
+    kept_is : Ok tt ≡ checked_from journal_start ns
+    kept_is = ok_is (checked_from journal_start ns) (ap is_ok (sym c) ∙ sym v ∙ ap is_ok w)
+
+    pub unwritten_answer : b ≡ false → text_written (Err TooShort) ≡ writer_answer ns (length old)
+    unwritten_answer t = (unwritten ns old kept_is e t).0
+
+    pub wrote_both : {new : List ℕ} {r : ℕ} → b ≡ true → Written old 0 (journal_text ns) new r → (text_written (Ok r) ≡ writer_answer ns (length old)) × (new ≡ buffer_after ns old)
+    wrote_both t p = wrote ns old kept_is e t p
 
 pub room_for : {a n : ℕ} {b : Bool} → b ≡ leb a n → b ≡ true → a ≤ n
 room_for {a} {n} e t = leb-true a n (sym e ∙ t)
+
+pub ruleset answers = (room_for, refused_text, unwritten_text)

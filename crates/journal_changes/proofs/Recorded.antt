@@ -28,6 +28,8 @@ module _ (b n : ℕ) where
   pub size_some : (n ≡ b → ⊥) → 3 ≡ length (change_of 0 0 b n)
   size_some e = ap length (moved 0 0 b n e)
 
+pub ruleset sizes = (size_none, size_some)
+
 module _ (stamp f b n : ℕ) (old : List ℕ) (at : ℕ) where
   pub put_none : n ≡ b → Written old at (change_of stamp f b n) old at
   put_none e = rw (← unmoved stamp f b n e) (record { bytes = refl; past = omega arith })

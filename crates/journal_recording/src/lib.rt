@@ -9,6 +9,7 @@ use journal_changes::ChangesAdded;
 use showing::FIELDS;
 
 // The numbers of one field's change; 0 where it has none.
+#[tactic(auto, using(journal_changes::proofs::Recorded::sizes))]
 fn size(b: u32, a: u32) -> u32
     ensures { result ≡ length (change_of 0 0 b a) }
 {
@@ -23,11 +24,8 @@ fn numbers_added(before: [u32; FIELDS], after: [u32; FIELDS]) -> u32
     ensures { result ≡ length (changes_from 0 0 before after) }
 {
     let mut count: u32 = 0;
-    let mut i: usize = 0;
-    while i < FIELDS {
-        let n = size(before[i], after[i]);
-        count += n;
-        i += 1;
+    for i in 0..FIELDS {
+        count += size(before[i], after[i]);
     }
     count
 }
@@ -52,16 +50,15 @@ fn put_changes(stamp: u32, before: [u32; FIELDS], after: [u32; FIELDS], list: &m
     ensures { Written list.old 0 (changes_from stamp 0 before after) list.new result }
 {
     let mut end: usize = 0;
-    let mut i: usize = 0;
-    while i < FIELDS {
+    for i in 0..FIELDS {
         end = put_change(stamp, i as u32, before[i], after[i], list, end);
-        i += 1;
     }
     end
 }
 
 // What the tick of this stamp adds to a journal, at the list's front, and the next tick's stamp: a change for each output that is not
 // what it was before. 7 where the list is too short: nothing is written, and the stamp is as given.
+// The one refusal is the C interface's number, and stands once.
 pub fn record_changes(
     stamp: u32,
     before: [u32; FIELDS],
@@ -76,14 +73,13 @@ pub fn record_changes(
         return ChangesAdded {
             refusal: 7,
             count: 0,
-            stamp: stamp,
+            stamp,
         };
     }
     put_changes(stamp, before, after, list);
-    let next = journal_stamps::stamp_after(stamp, 1);
     ChangesAdded {
         refusal: 0,
-        count: count,
-        stamp: next,
+        count,
+        stamp: journal_stamps::stamp_after(stamp, 1),
     }
 }

@@ -13,25 +13,26 @@ use Rattle.slots.specs.Slots.{slot, module_kind, compensation_current, resistanc
 use Rattle.measure.specs.declared.Channel.TheVariants.{Voltage}
 use Rattle.measure.specs.Readings.{limit_of}
 use Rattle.phasor.specs.declared.Phasors.{Phasors}
-use Rattle.phasor.specs.declared.Vector.TheVariants.{Is}
+use Rattle.std.specs.Prelude.{Some}
+use Rattle.phasor.specs.declared.Vector.{Vector}
 use Rattle.phasor.specs.Pairs.{vector_of}
 use Rattle.sheet.specs.Sheet.{passes_of}
 use Rattle.sheet.proofs.Laws.{resistance_most, reactance_most}
 use Rattle.root.specs.Roots.{root_of, Root}
 use Rattle.root.proofs.Laws.{root_is, root_monotone}
-use Rattle.busbar_current.specs.declared.Value.TheVariants as value
 use Rattle.busbar_current.specs.Current.{picked_of}
 use Rattle.line_current.specs.Pair.{current_of}
 use Rattle.line.proofs.Made.{end_made}
+use Rattle.line.specs.Stars.{pair}
 use Rattle.line.specs.Along.{most_impedance, scaled_of, drop_re, drop_im, remains_of, squares_of, magnitude_of, far_end_of, along_of}
 
 -- ---- U is what its sentence says
 
-pub u_is_largest : (re im : ℤ) (u : ℕ) → magnitude_of (Is re im) ≡ value.Is (pos u) → Root (squares_of re im) u
+pub u_is_largest : (re im : ℤ) (u : ℕ) → magnitude_of (pair re im) ≡ Some (pos u) → Root (squares_of re im) u
 unfolding magnitude_of
 u_is_largest re im u e = rw (sym (same e)) (root_is (squares_of re im))
   where
-    same : value.Is (pos (root_of (squares_of re im))) ≡ value.Is (pos u) → root_of (squares_of re im) ≡ u
+    same : Some (pos (root_of (squares_of re im))) ≡ Some (pos u) → root_of (squares_of re im) ≡ u
     same f = cc
 
 -- where more remains, U is not less
@@ -64,20 +65,20 @@ unfolding drop_im
 im_none r x = rw (mul-zero r, mul-zero x) no_drop
 
 module _ (p q re im : ℤ) where
-  pub no_impedance : remains_of 0 0 (Is p q) (Is re im) ≡ Is p q
+  pub no_impedance : remains_of 0 0 (pair p q) (pair re im) ≡ pair p q
   unfolding remains_of drop_re drop_im
   no_impedance = rw (none_of_lem re, none_of_lem im, no_drop, less_none p, less_none q)
 
-  pub no_current : (r x : ℕ) → remains_of r x (Is p q) (Is (pos 0) (pos 0)) ≡ Is p q
+  pub no_current : (r x : ℕ) → remains_of r x (pair p q) (pair (pos 0) (pos 0)) ≡ pair p q
   unfolding remains_of
   no_current r x = rw (re_none r x, im_none r x) (cc (less_none p, less_none q))
 
   -- with R and X 0
-  pub own_parts : (s : List ℕ) → slot s resistance ≡ 0 → slot s reactance ≡ 0 → far_end_of s (Is p q) (Is re im) ≡ value.Is (pos (root_of (squares_of p q)))
+  pub own_parts : (s : List ℕ) → slot s resistance ≡ 0 → slot s reactance ≡ 0 → far_end_of s (pair p q) (pair re im) ≡ Some (pos (root_of (squares_of p q)))
   unfolding magnitude_of
   own_parts s a b =
       sym
-      (end_made (value.Is (pos (root_of (squares_of p q)))) s (Is p q) (Is re im) (Is p q) (omega (arith, a)) (omega (arith, b)) (rw (a, b) (sym no_impedance))
+      (end_made (Some (pos (root_of (squares_of p q)))) s (pair p q) (pair re im) (pair p q) (omega (arith, a)) (omega (arith, b)) (rw (a, b) (sym no_impedance))
       refl)
 
 -- ---- U goes by the module, slot 4, R and X, and by no other slot: not by the ratings of 02, ticket 5

@@ -1,5 +1,5 @@
 -- The voltage U along the line's impedance (02, ticket 3). Definitions only.
-use Rattle.std.specs.Prelude.{ℕ, ◌+◌, ◌*◌, List, leb, ℤ, pos, nat_abs, ◌+ℤ◌, ◌-ℤ◌, ◌*ℤ◌}
+use Rattle.std.specs.Prelude.{ℕ, ◌+◌, ◌*◌, Option, None, Some, List, leb, ℤ, pos, nat_abs, ◌+ℤ◌, ◌-ℤ◌, ◌*ℤ◌}
 use Rattle.std.specs.Int.Signed.{quot_z}
 use Rattle.common.specs.Choice.{choose}
 use Rattle.slots.specs.Slots.{slot, resistance, reactance}
@@ -7,11 +7,8 @@ use Rattle.measure.specs.declared.Channel.TheVariants.{Voltage}
 use Rattle.measure.specs.Readings.{limit_of}
 use Rattle.phasor.specs.declared.Phasors.{Phasors}
 use Rattle.phasor.specs.declared.Vector.{Vector}
-use Rattle.phasor.specs.declared.Vector.TheVariants.{Missing, Is}
 use Rattle.phasor.specs.Pairs.{vector_of}
 use Rattle.root.specs.Roots.{root_of}
-use Rattle.busbar_current.specs.declared.Value.{Value}
-use Rattle.busbar_current.specs.declared.Value.TheVariants as value
 use Rattle.line_current.specs.Pair.{current_of}
 
 -- R and X: "0–400,000 with 1 A", and with 5 A less; no taken sheet has more
@@ -41,27 +38,27 @@ unfoldable pub drop_im : ℕ → ℕ → ℤ → ℤ → ℤ
 drop_im r x re im = scaled_of (pos r *ℤ im +ℤ pos x *ℤ re)
 
 -- "what remains": U_AB, part by part, less the drop of the current
-unfoldable pub remains_of : ℕ → ℕ → Vector → Vector → Vector
-remains_of r x Missing i = Missing
-remains_of r x (Is p q) Missing = Missing
-remains_of r x (Is p q) (Is re im) = Is (p -ℤ drop_re r x re im) (q -ℤ drop_im r x re im)
+unfoldable pub remains_of : ℕ → ℕ → Option Vector → Option Vector → Option Vector
+remains_of r x None i = None
+remains_of r x (Some u) None = None
+remains_of r x (Some u) (Some i) = Some (record { re = u.re -ℤ drop_re r x i.re i.im; im = u.im -ℤ drop_im r x i.re i.im })
 
 -- "the sum of the squares"
 unfoldable pub squares_of : ℤ → ℤ → ℕ
 squares_of re im = nat_abs re * nat_abs re + nat_abs im * nat_abs im
 
 -- "U is the largest whole number whose square is not above the sum of the squares of what remains"
-unfoldable pub magnitude_of : Vector → Value
-magnitude_of Missing = value.Missing
-magnitude_of (Is re im) = value.Is (pos (root_of (squares_of re im)))
+unfoldable pub magnitude_of : Option Vector → Option ℤ
+magnitude_of None = None
+magnitude_of (Some v) = Some (pos (root_of (squares_of v.re v.im)))
 
 -- an impedance that no taken sheet has is missing
-unfoldable pub far_end_of : List ℕ → Vector → Vector → Value
+unfoldable pub far_end_of : List ℕ → Option Vector → Option Vector → Option ℤ
 far_end_of s u i =
     choose (leb (slot s resistance) most_impedance)
-    (choose (leb (slot s reactance) most_impedance) (magnitude_of (remains_of (slot s resistance) (slot s reactance) u i)) value.Missing)
-    value.Missing
+    (choose (leb (slot s reactance) most_impedance) (magnitude_of (remains_of (slot s resistance) (slot s reactance) u i)) None)
+    None
 
 -- "U is missing if a needed part is missing or Held": U_AB's pair and those of the currents that slot 4 names are needed
-unfoldable pub along_of : List ℕ → Phasors → Value
+unfoldable pub along_of : List ℕ → Phasors → Option ℤ
 along_of s p = far_end_of s (vector_of (limit_of Voltage) p.u_ab) (current_of s p)

@@ -1,9 +1,6 @@
 -- Worked values of U along the line's impedance, by hand, as one list; `proofs/Worked.antt` shows U by its sentence.
-use Rattle.std.specs.Prelude.{ℕ, List, [], ◌∷◌, map, ◌≡◌, refl, ℤ, pos, negsuc}
+use Rattle.std.specs.Prelude.{ℕ, List, [], ◌∷◌, map, ◌≡◌, refl, ℤ, pos, negsuc, Option, Some}
 use Rattle.phasor.specs.declared.Vector.{Vector}
-use Rattle.phasor.specs.declared.Vector.TheVariants.{Is}
-use Rattle.busbar_current.specs.declared.Value.{Value}
-use Rattle.busbar_current.specs.declared.Value.TheVariants as value
 use Rattle.line.specs.Along.{scaled_of, drop_re, drop_im, remains_of, magnitude_of}
 
 -- R and X, U_AB's parts, the current's parts; the parts of what remains, and U
@@ -39,18 +36,21 @@ stars =
     ∷ star 1 1 (pos 0) (pos 0) (pos 289) (negsuc 288) (negsuc 0) (pos 0) 1
     ∷ []
 
-abbrev pub remaining : Star → Vector
-remaining (star r x p q re im a b u) = remains_of r x (Is p q) (Is re im)
+abbrev pub pair : ℤ → ℤ → Option Vector
+pair re im = Some (record { re = re; im = im })
 
-abbrev pub expected_remains : Star → Vector
-expected_remains (star r x p q re im a b u) = Is a b
+abbrev pub remaining : Star → Option Vector
+remaining (star r x p q re im a b u) = remains_of r x (pair p q) (pair re im)
+
+abbrev pub expected_remains : Star → Option Vector
+expected_remains (star r x p q re im a b u) = pair a b
 
 pub stars_remain : map remaining stars ≡ map expected_remains stars
 unfolding scaled_of drop_re drop_im remains_of
 stars_remain = refl
 
-abbrev pub found : Star → Value
+abbrev pub found : Star → Option ℤ
 found s = magnitude_of (remaining s)
 
-abbrev pub expected : Star → Value
-expected (star r x p q re im a b u) = value.Is (pos u)
+abbrev pub expected : Star → Option ℤ
+expected (star r x p q re im a b u) = Some (pos u)

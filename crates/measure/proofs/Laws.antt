@@ -23,7 +23,7 @@ use Rattle.measure.specs.Fields.{minus_of, exponent_of, number_fraction}
 use Rattle.measure.specs.declared.Measured.{Measured}
 use Rattle.measure.specs.declared.Channel.{Channel}
 use Rattle.measure.specs.declared.Channel.TheVariants.{Voltage, Current1A, Current5A}
-use Rattle.measure.specs.declared.Converted.TheVariants.{OutOfRange, Whole}
+use Rattle.std.specs.Prelude.{Some, None}
 use Rattle.measure.specs.declared.Reading.{Reading}
 use Rattle.measure.specs.declared.Reading.TheVariants.{Good, Held, Invalid}
 
@@ -209,13 +209,13 @@ module _ (c : Channel) (x : Float) (n : ℕ) (is : n ≡ limit_of c) (above : Bo
   pub taken : above ≡ true → le x (of_int binary32 (pos n)) ≡ true → T (in_range most_volts x)
   taken a second = wider n x limit_le (subst T (sym (outcome true second ∙ ap (λ (b : Bool). b && true) a)) tt)
 
-  pub converted_whole : (t : ℕ) → above ≡ true → le x (of_int binary32 (pos n)) ≡ true → t ≡ thousandths x → Whole t ≡ converted_of (limit_of c) x
-  converted_whole t a second e = rw (← is, outcome true second, a) (ap Whole e)
+  pub converted_whole : (t : ℕ) → above ≡ true → le x (of_int binary32 (pos n)) ≡ true → t ≡ thousandths x → Some t ≡ converted_of (limit_of c) x
+  converted_whole t a second e = rw (← is, outcome true second, a) (ap Some e)
 
-  pub converted_above : above ≡ true → le x (of_int binary32 (pos n)) ≡ false → OutOfRange ≡ converted_of (limit_of c) x
+  pub converted_above : above ≡ true → le x (of_int binary32 (pos n)) ≡ false → None ≡ converted_of (limit_of c) x
   converted_above a second = rw (← is, outcome false second, a)
 
-  pub converted_below : above ≡ false → OutOfRange ≡ converted_of (limit_of c) x
+  pub converted_below : above ≡ false → None ≡ converted_of (limit_of c) x
   converted_below a = rw (← is, outcome (le x (of_int binary32 (pos n))) refl, a)
 
 -- ---- rounding: a rule that gives equal fractions the same number

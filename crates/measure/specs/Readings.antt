@@ -1,11 +1,9 @@
 -- What a reading counts as (01, 'What a tick brings'). Definitions only.
-use Rattle.std.specs.Prelude.{ℕ, ◌*◌, ◌≤◌, Bool, true, false, Float}
+use Rattle.std.specs.Prelude.{ℕ, ◌*◌, ◌≤◌, Bool, true, false, Option, None, Some, Float}
 use Rattle.std.specs.Float.{binary32}
 use Rattle.std.specs.Float.Ieee.{of_bits}
 use Rattle.measure.specs.declared.Channel.{Channel}
 use Rattle.measure.specs.declared.Channel.TheVariants.{Voltage, Current1A, Current5A}
-use Rattle.measure.specs.declared.Converted.{Converted}
-use Rattle.measure.specs.declared.Converted.TheVariants.{OutOfRange, Whole}
 use Rattle.measure.specs.declared.Measured.{Measured}
 use Rattle.measure.specs.declared.Measured.TheVariants as measured
 use Rattle.measure.specs.declared.Reading.{Reading}
@@ -24,21 +22,22 @@ limit_of Voltage = most_volts
 limit_of Current1A = most_amperes
 limit_of Current5A = 5 * most_amperes
 
-abbrev pub if_in_range : Bool → ℕ → Converted
-if_in_range true n = Whole n
-if_in_range false n = OutOfRange
+-- what is counted, where the number is in range
+abbrev pub if_in_range : {A : Type 0} → Bool → A → Option A
+if_in_range true n = Some n
+if_in_range false n = None
 
 -- "the range test still comes first and on the float itself" (02, ticket 1): a number in range counts as its nearest whole thousandth
-abbrev pub converted_of : ℕ → Float → Converted
+abbrev pub converted_of : ℕ → Float → Option ℕ
 converted_of limit x = if_in_range (in_range limit x) (thousandths x)
 
-unfoldable pub good_of : Converted → Measured
-good_of OutOfRange = measured.Missing
-good_of (Whole n) = measured.Good n
+unfoldable pub good_of : Option ℕ → Measured
+good_of None = measured.Missing
+good_of (Some n) = measured.Good n
 
-unfoldable pub held_of : Converted → Measured
-held_of OutOfRange = measured.Missing
-held_of (Whole n) = measured.Held n
+unfoldable pub held_of : Option ℕ → Measured
+held_of None = measured.Missing
+held_of (Some n) = measured.Held n
 
 -- missing, as is Invalid; otherwise the number, Good or Held as it was handed over
 unfoldable pub measured_of : ℕ → Reading → Measured

@@ -1,4 +1,4 @@
-// Readings, and what they count as: the types, with their definitions in specs/ and the laws in proofs/. It has no code of its own.
+// Readings, and what they count as: the types, with their definitions in specs/ and the laws in proofs/. It has no functions of its own.
 #![tactic(auto)]
 
 // What the module hands over: a number in V or A, fresh or held from before, or nothing.
@@ -9,8 +9,9 @@ pub enum Reading {
     Invalid,
 }
 
-// What a reading counts as, in mV or mA. Missing: Invalid, or a number that is out of range.
-#[derive(Clone, Copy)]
+// What a reading counts as, in mV or mA. Missing: Invalid, or a number that is out of range. It has a reading's three cases, so it is
+// no Option.
+#[derive(Clone, Copy, PartialEq, Eq)]
 pub enum Measured {
     Good(u32),
     Held(u32),
@@ -18,16 +19,9 @@ pub enum Measured {
 }
 
 // What is measured: it sets the range. The current's range goes by the module's rated current.
-#[derive(Clone, Copy)]
+#[derive(Clone, Copy, PartialEq, Eq)]
 pub enum Channel {
     Voltage,
     Current1A,
     Current5A,
-}
-
-// A number of thousandths, or none where the reading's number is out of range.
-#[derive(Clone, Copy)]
-pub enum Converted {
-    OutOfRange,
-    Whole(u32),
 }

@@ -7,7 +7,7 @@ ghost use Rattle.measure.specs.Exact.{in_range, thousandths};
 ghost use Rattle.measure.specs.Readings.{most_volts, limit_of, converted_of};
 ghost use Rattle.measure_front.specs.Judging.{JudgedBy};
 
-use measure::{Channel, Converted};
+use measure::Channel;
 use measure_front::Passed;
 
 const MOST_VOLTS: u16 = 200;
@@ -44,15 +44,16 @@ fn whole_thousandths(x: f32) -> u32
 }
 
 // What a number counts as whose sign and exponent are those that passed the first step; of any other nothing is promised. Two
-// comparisons decide the range: a number below 0 fails the first, while -0.0 counts as 0; one above the limit fails the second.
-pub fn convert(p: Passed, x: f32) -> Converted
+// comparisons decide the range, outside of which there is none: a number below 0 fails the first, while -0.0 counts as 0; one above the
+// limit fails the second.
+#[tactic(auto, using(crate::proofs::Second::second))]
+pub fn convert(p: Passed, x: f32) -> Option<u32>
     ensures { JudgedBy p x → result ≡ converted_of (limit_of p.channel) x }
 {
     let top = limit(measure_front::channel_of(p));
-    if x >= 0.0 {
-        if x <= top as f32 {
-            return Converted::Whole(whole_thousandths(x));
-        }
+    if x >= 0.0 && x <= top as f32 {
+        Some(whole_thousandths(x))
+    } else {
+        None
     }
-    Converted::OutOfRange
 }

@@ -7,7 +7,8 @@ use Prim.Native.Nat.{ℕ, zero, suc, ◌+◌, ◌-◌, ◌*◌, ◌^◌, ◌≤�
 use native.Mathlib.Nat.{le_trans, le_of_eq, lt_of_lt_of_le, lt_irrefl, mul-pos, mul_right_comm, mul-le-mul, mul-le-mul_right, le_of_mul-le-mul_right, eq-zero-or-pos, zero-mul}
 use native.Mathlib.Omega.{arith}
 use borrow.Author.Rules.{rules}
-use borrow.Author.Tests.{not-true, not-false, lt-leb, le-leb, eq-eqb, ne_eqb, leb-true, leb-false, eqb-true, eqb-false}
+use denote.Enum.Bare.{sameb}
+use borrow.Author.Tests.{lt-leb, le-leb, eq-eqb, ne_eqb, leb-true, leb-false, eqb-true, eqb-false}
 use lib.Dec.{T, leb, eqb, le→leb, leb→le, lit≤, lit<}
 use lib.Pow.{pow_pos, pow_mono}
 use lib.Ieee.{Float, nan, inf, fin, binary32, up, down, of_fields, to_bits, of_int}
@@ -21,6 +22,7 @@ use Rattle.measure.specs.declared.Channel.{Channel}
 use Rattle.measure.specs.declared.Channel.TheVariants.{Voltage, Current1A, Current5A}
 use Rattle.measure.specs.declared.Measured.{Measured}
 use Rattle.measure.specs.declared.Measured.TheVariants as measured
+use Rattle.measure_front.specs.contracts.Quality.{the_type}
 use Rattle.measure_front.specs.declared.Front.{Front}
 use Rattle.measure_front.specs.declared.Quality.{Quality}
 use Rattle.measure_front.specs.declared.Quality.TheVariants as quality
@@ -153,6 +155,13 @@ kept : (v a b c : Bool) → (b ≡ v → c ≡ v) → (a && b) ≡ v → (a && c
 kept v true b c f e = f e
 kept v false b c f e = e
 
+-- a quality that is not Invalid has a number
+numbered : (q : Quality) → has_number q ≡ not (sameb the_type q quality.Invalid)
+unfolding has_number
+numbered quality.Good = refl
+numbered quality.Held = refl
+numbered quality.Invalid = refl
+
 -- the code's tests
 abbrev tested : Channel → Front → Bool
 tested c f = has_number f.quality && lets (limit_of c) (top_exponent (limit_of c)) (top_is c) f.minus f.exponent
@@ -175,34 +184,22 @@ module _ (c : Channel) (f : Front) (r : Bool) where
       go true e all = absurd (zero_counts (sym is ∙ e) (all 0 (lit< tt)))
 
   -- as the code comes to its answer
-  module _ (q : Quality) (n : Bool) (kind : q ≡ f.quality) (number : n ≡ has_number q) where
-    pub by_quality : not n ≡ true → r ≡ false → (r ≡ false) ↔ EveryFractionMissing (limit_of c) f
-    by_quality none is = sentence (is ∙ rw (← kind, ← number, not-true n none))
+  module _ (invalid : Bool) (kind : invalid ≡ sameb the_type f.quality quality.Invalid) where
+    number : has_number f.quality ≡ not invalid
+    number = numbered f.quality ∙ ap not (sym kind)
 
-    pub by_minus : not n ≡ false → f.minus ≡ true → r ≡ eqb f.exponent 0 → (r ≡ false) ↔ EveryFractionMissing (limit_of c) f
-    by_minus some minus is = sentence (is ∙ rw (← kind, ← number, not-false n some, minus))
+    pub by_quality : invalid ≡ true → r ≡ false → (r ≡ false) ↔ EveryFractionMissing (limit_of c) f
+    by_quality none is = sentence (is ∙ rw (number, none))
 
-    pub by_exponent : (p : ℕ) → not n ≡ false → f.minus ≡ false → p ≡ top_exponent (limit_of c) → r ≡ leb f.exponent p → (r ≡ false) ↔ EveryFractionMissing (limit_of c) f
-    by_exponent p some plus top is = sentence (is ∙ rw (← kind, ← number, not-false n some, plus) (rw top))
+    pub by_minus : invalid ≡ false → f.minus ≡ true → r ≡ eqb f.exponent 0 → (r ≡ false) ↔ EveryFractionMissing (limit_of c) f
+    by_minus some minus is = sentence (is ∙ rw (number, some, minus))
+
+    pub by_exponent : (p : ℕ) → invalid ≡ false → f.minus ≡ false → p ≡ top_exponent (limit_of c) → r ≡ leb f.exponent p → (r ≡ false) ↔ EveryFractionMissing (limit_of c) f
+    by_exponent p some plus top is = sentence (is ∙ rw (number, some, plus) (rw top))
 
 pub ruleset first_step = (by_quality, by_minus, by_exponent, rules)
 
--- ---- the small functions
-
-module _ (r : Bool) (q : Quality) where
-  pub number_good : q ≡ quality.Good → r ≡ true → r ≡ has_number q
-  unfolding has_number
-  number_good e is = rw e is
-
-  pub number_held : q ≡ quality.Held → r ≡ true → r ≡ has_number q
-  unfolding has_number
-  number_held e is = rw e is
-
-  pub number_none : q ≡ quality.Invalid → r ≡ false → r ≡ has_number q
-  unfolding has_number
-  number_none e is = rw e is
-
-pub ruleset numbers = (number_good, number_held, number_none, rules)
+-- ---- the exponents of the limits
 
 module _ (r : ℕ) (c : Channel) where
   pub top_voltage : c ≡ Voltage → r ≡ 134 → r ≡ top_exponent (limit_of c)

@@ -1,10 +1,8 @@
 -- The first step's answer, and what the two steps come to for a reading.
 -- Assumes nothing.
 use mathlib.Core.Path.{◌≡◌, refl, sym, ap, ◌∙◌, subst}
-use mathlib.Core.Logic.{◌↔◌}
-use mathlib.Core.Bool.{Bool, true, false, true≢false}
-use borrow.Author.Rules.{rules}
 use lib.Ieee.{Float, of_bits, to_bits}
+use Rattle.std.specs.Prelude.{Option, None, Some}
 use Rattle.measure.specs.Fields.{minus_of, exponent_of}
 use Rattle.measure.specs.Readings.{limit_of, number_of, measured_of}
 use Rattle.measure.specs.declared.Channel.{Channel}
@@ -15,24 +13,11 @@ use Rattle.measure.specs.declared.Reading.TheVariants.{Good, Held, Invalid}
 use Rattle.measure_front.specs.Fronts.{reading_of, EveryFractionMissing, number_front, front_of, fraction_of}
 use Rattle.measure_front.specs.Judging.{Judges, JudgedBy}
 use Rattle.measure_front.specs.declared.Front.{Front}
-use Rattle.measure_front.specs.declared.Judged.{Judged}
-use Rattle.measure_front.specs.declared.Judged.TheVariants as judged
 use Rattle.measure_front.specs.declared.Passed.{Passed}
 use Rattle.measure_front.proofs.Fronts.{fraction_lt}
 
-module _ (c : Channel) (f : Front) (j : Judged) (passes : Bool) (sentence : (passes ≡ false) ↔ EveryFractionMissing (limit_of c) f) where
-  pub judged_passed : passes ≡ true → j ≡ judged.Passed (record { channel = c; minus = f.minus; exponent = f.exponent }) → Judges c f j
-  unfolding Judges
-  judged_passed e is = rw is (λ all. true≢false (sym e ∙ sentence.1 all), refl)
-
-  pub judged_missing : passes ≡ false → j ≡ judged.Missing → Judges c f j
-  unfolding Judges
-  judged_missing e is = rw is (sentence.0 e)
-
-pub ruleset judging = (judged_passed, judged_missing, rules)
-
 -- what was let pass
-module _ (c : Channel) (f : Front) (j : Judged) (p : Passed) (told : Judges c f j) (is : j ≡ judged.Passed p) where
+module _ (c : Channel) (f : Front) (j : Option Passed) (p : Passed) (told : Judges c f j) (is : j ≡ Some p) where
   held : p ≡ record { channel = c; minus = f.minus; exponent = f.exponent }
   unfolding Judges
   held = (subst (Judges c f) is told).1
@@ -54,7 +39,7 @@ own_front (Held x) = (refl, refl)
 own_front Invalid = (refl, refl)
 
 -- so the second step's promise stands for the number of the reading that passed
-pub own_number : (c : Channel) (r : Reading) (f : Front) (j : Judged) (p : Passed) (x : Float) → f ≡ front_of r → Judges c f j → j ≡ judged.Passed p → x ≡ number_of r
+pub own_number : (c : Channel) (r : Reading) (f : Front) (j : Option Passed) (p : Passed) (x : Float) → f ≡ front_of r → Judges c f j → j ≡ Some p → x ≡ number_of r
     → JudgedBy p x
 unfolding JudgedBy
 own_number c r f j p x front told is number =
@@ -64,7 +49,7 @@ own_number c r f j p x front told is number =
     )
 
 -- a reading that the first step stops: its own fraction is one of those that are missing
-pub stopped : (c : Channel) (r : Reading) (f : Front) (j : Judged) (m : Measured) → reading_of f (fraction_of r) ≡ r → Judges c f j → j ≡ judged.Missing → m ≡ measured.Missing
+pub stopped : (c : Channel) (r : Reading) (f : Front) (j : Option Passed) (m : Measured) → reading_of f (fraction_of r) ≡ r → Judges c f j → j ≡ None → m ≡ measured.Missing
     → m ≡ measured_of (limit_of c) r
 unfolding Judges EveryFractionMissing
 stopped c r f j m whole told e is = is ∙ sym (subst (Judges c f) e told (fraction_of r) (fraction_lt r)) ∙ ap (measured_of (limit_of c)) whole

@@ -4,13 +4,13 @@
 ghost use Rattle.std.specs.Prelude.{◌≡◌, false, ◌↔◌};
 ghost use Rattle.measure.specs.Fields.{number_fraction};
 ghost use Rattle.measure.specs.Readings.{limit_of};
-ghost use Rattle.measure_front.specs.Fronts.{handed, reading_of, EveryFractionMissing, number_front, front_of, fraction_of, has_number, top_exponent};
+ghost use Rattle.measure_front.specs.Fronts.{handed, reading_of, EveryFractionMissing, number_front, front_of, fraction_of, top_exponent};
 ghost use Rattle.measure_front.specs.Judging.{Judges};
 
 use measure::{Channel, Reading};
 
 // How a reading was handed over.
-#[derive(Clone, Copy)]
+#[derive(Clone, Copy, PartialEq, Eq)]
 pub enum Quality {
     Good,
     Held,
@@ -18,7 +18,7 @@ pub enum Quality {
 }
 
 // What the module hands over before the fraction. Of an Invalid reading only the quality tells something.
-#[derive(Clone, Copy)]
+#[derive(Clone, Copy, PartialEq, Eq)]
 pub struct Front {
     pub quality: Quality,
     pub minus: bool,
@@ -26,26 +26,20 @@ pub struct Front {
 }
 
 // A sign and an exponent that passed the first step, and the channel that they passed for. Only this crate can make one.
-#[derive(Clone, Copy)]
+#[derive(Clone, Copy, PartialEq, Eq)]
 pub struct Passed {
     channel: Channel,
     minus: bool,
     exponent: u8,
 }
 
-// The first step's answer.
-#[derive(Clone, Copy)]
-pub enum Judged {
-    Missing,
-    Passed(Passed),
-}
-
-// A number's sign and exponent. A NaN's bits cannot be read: it alone differs from itself, and its exponent is 255.
+// A number's sign and exponent. A NaN's bits cannot be read; its exponent is 255.
+#[tactic(auto, using(crate::proofs::Fronts::number_fronts))]
 fn number_front(quality: Quality, x: f32) -> Front
     ensures each { result ≡ number_front quality x }
     ensures whole { reading_of result (number_fraction x) ≡ handed quality x }
 {
-    if x != x {
+    if x.is_nan() {
         return Front {
             quality,
             minus: false,
@@ -61,6 +55,7 @@ fn number_front(quality: Quality, x: f32) -> Front
 }
 
 // A reading's front: with the fraction that comes after it, it is the whole reading.
+#[tactic(auto, unfolding(crate::specs::Fronts::front_of, crate::specs::Fronts::fraction_of, crate::specs::Fronts::reading_of))]
 pub fn front_of(r: Reading) -> Front
     ensures each { result ≡ front_of r }
     ensures whole { reading_of result (fraction_of r) ≡ r }
@@ -76,17 +71,8 @@ pub fn front_of(r: Reading) -> Front
     }
 }
 
-fn has_number(q: Quality) -> bool
-    ensures { result ≡ has_number q }
-{
-    match q {
-        Quality::Good => true,
-        Quality::Held => true,
-        Quality::Invalid => false,
-    }
-}
-
 // The exponent in which the limit lies: 200 is 1.5625 * 2^(134 - 127), and 40 is 1.25 * 2^(132 - 127).
+#[tactic(auto, using(crate::proofs::FirstStep::tops))]
 fn top_exponent(c: Channel) -> u8
     ensures { result ≡ top_exponent (limit_of c) }
 {
@@ -99,11 +85,11 @@ fn top_exponent(c: Channel) -> u8
 
 // Whether some fraction counts: with a minus sign only that of -0.0, which has exponent 0; with the limit's own exponent some do, and
 // with a higher one, 255 among them, none.
+#[tactic(auto, using(crate::proofs::FirstStep::first_step))]
 pub fn passes(c: Channel, f: Front) -> bool
     ensures { (result ≡ false) ↔ EveryFractionMissing (limit_of c) f }
 {
-    let quality = f.quality;
-    if !has_number(quality) {
+    if f.quality == Quality::Invalid {
         return false;
     }
     if f.minus {
@@ -112,18 +98,20 @@ pub fn passes(c: Channel, f: Front) -> bool
     f.exponent <= top_exponent(c)
 }
 
-// The first step. What it lets pass, the second step takes (`measure_fraction::convert`), and nothing else.
-pub fn judge(c: Channel, f: Front) -> Judged
+// The first step, None being missing. What it lets pass, the second step takes (`measure_fraction::convert`), and nothing else.
+#[tactic(auto, unfolding(crate::specs::Judging::Judges))]
+pub fn judge(c: Channel, f: Front) -> Option<Passed>
     ensures { Judges c f result }
 {
     if passes(c, f) {
-        return Judged::Passed(Passed {
+        Some(Passed {
             channel: c,
             minus: f.minus,
             exponent: f.exponent,
-        });
+        })
+    } else {
+        None
     }
-    Judged::Missing
 }
 
 pub fn channel_of(p: Passed) -> Channel

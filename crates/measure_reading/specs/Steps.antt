@@ -1,7 +1,5 @@
 -- What the functions say to each other. Definitions only.
-use Rattle.std.specs.Prelude.{ℕ}
-use Rattle.measure.specs.declared.Converted.{Converted}
-use Rattle.measure.specs.declared.Converted.TheVariants.{OutOfRange, Whole}
+use Rattle.std.specs.Prelude.{ℕ, Option, None, Some}
 use Rattle.measure.specs.declared.Measured.{Measured}
 use Rattle.measure.specs.declared.Measured.TheVariants as measured
 use Rattle.measure_front.specs.declared.Quality.{Quality}
@@ -12,6 +10,6 @@ with_quality quality.Good n = measured.Good n
 with_quality quality.Held n = measured.Held n
 with_quality quality.Invalid n = measured.Missing
 
-unfoldable pub counted_of : Quality → Converted → Measured
-counted_of q OutOfRange = measured.Missing
-counted_of q (Whole n) = with_quality q n
+unfoldable pub counted_of : Quality → Option ℕ → Measured
+counted_of q None = measured.Missing
+counted_of q (Some n) = with_quality q n

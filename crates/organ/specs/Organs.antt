@@ -1,8 +1,10 @@
 -- What the organs of rule 5 do over one tick.
-use Rattle.std.specs.Prelude.{ℕ, ◌+◌, ◌*◌, Bool, true, false, ◌&&◌, List, ltb, leb}
+use Rattle.std.specs.Prelude.{ℕ, ◌+◌, ◌*◌, Bool, true, false, ◌&&◌, List, ltb, leb, Option, Some, None}
 use Rattle.common.specs.Choice.{choose}
 use Rattle.common.specs.Places.{zip}
 use Rattle.organ.specs.declared.Organ.{Organ}
+use Rattle.organ.specs.declared.Side.{Side}
+use Rattle.organ.specs.declared.Side.TheVariants.{Over, Under}
 use Rattle.organ.specs.declared.OrganInput.{OrganInput}
 use Rattle.organ.specs.declared.Stepped.{Stepped}
 use Rattle.organ.specs.declared.Organs.{Organs}
@@ -15,9 +17,19 @@ over_of was value set = choose (ltb set value) true (choose (ltb (20 * value) (1
 abbrev pub under_of : Bool → ℕ → ℕ → Bool
 under_of was value set = choose (ltb value set) true (choose (ltb (21 * set) (20 * value)) false was)
 
--- the mark after the tick; off, no section or missing: cleared
+-- the mark by a value, on either side of the limit
+abbrev pub marked_of : Bool → Side → ℕ → ℕ → Bool
+marked_of was Over value set = over_of was value set
+marked_of was Under value set = under_of was value set
+
+-- the mark by what the tick brings; off, no section or missing, so no value: cleared
+abbrev pub mark_by : Bool → Side → Option ℕ → ℕ → Bool
+mark_by was side (Some value) limit = marked_of was side value limit
+mark_by was side None limit = false
+
+-- the mark after the tick
 abbrev pub mark_of : Bool → OrganInput → Bool
-mark_of was x = choose x.live (choose x.under (under_of was x.value x.limit) (over_of was x.value x.limit)) false
+mark_of was x = mark_by was x.side x.value x.limit
 
 -- the count after the tick: the marked ticks in a row, held at the delay
 abbrev pub count_of : Bool → ℕ → ℕ → ℕ

@@ -1,8 +1,9 @@
 -- An organ over a list of ticks.
-use Rattle.std.specs.Prelude.{ℕ, ◌+◌, ◌≡◌, true, false, List, [], ◌∷◌}
+use Rattle.std.specs.Prelude.{ℕ, ◌+◌, ◌≡◌, true, false, List, [], ◌∷◌, Some}
 use Rattle.common.specs.Choice.{choose}
 use Rattle.organ.specs.declared.Organ.{Organ}
 use Rattle.organ.specs.declared.OrganInput.{OrganInput}
+use Rattle.organ.specs.declared.Side.TheVariants.{Over}
 use Rattle.organ.specs.Organs.{mark_of, organ_of}
 
 -- no mark, no count: an organ of the fresh record
@@ -11,7 +12,7 @@ cleared = record { marked = false; count = 0 }
 
 -- a tick of a live over organ: its limit, a value and its delay
 abbrev pub over_tick : ℕ → ℕ → ℕ → OrganInput
-over_tick limit value delay = record { live = true; under = false; value = value; limit = limit; delay = delay }
+over_tick limit value delay = record { side = Over; value = Some value; limit = limit; delay = delay }
 
 -- the organ after the ticks
 unfoldable pub run_of : Organ → List OrganInput → Organ

@@ -10,6 +10,7 @@ use lib.Dec.{ltb, leb}
 use lib.ListN.{length, replicate, length-replicate}
 use Rattle.common.specs.Choice.{choose}
 use Rattle.common.proofs.Cases.{cases, chosen}
+use Rattle.std.specs.Prelude.{None}
 use Rattle.organ.specs.declared.Organ.{Organ}
 use Rattle.organ.specs.declared.OrganInput.{OrganInput}
 use Rattle.organ.specs.Organs.{over_of, under_of, mark_of, count_of, organ_of, trip_of}
@@ -48,8 +49,8 @@ module _ (o : Organ) (x : OrganInput) where
   unfolding organ_of choose
   unmarked_clears p = rw p
 
-  pub not_live_clears : x.live ≡ false → organ_of o x ≡ cleared
-  not_live_clears p = unmarked_clears (sym (search cases))
+  pub not_live_clears : x.value ≡ None → organ_of o x ≡ cleared
+  not_live_clears p = unmarked_clears (rw p refl)
 
 -- The count is the marked ticks in a row, held at the delay: after any list of ticks.
 held_on_lem : (m : Bool) (n d : ℕ) → count_of m (min n d) d ≡ min (choose m (n + 1) 0) d

@@ -9,6 +9,8 @@ use native.Mathlib.Omega.{arith}
 use borrow.Author.Tests.{ltb-true, eqb-true, le-leb}
 use lib.Dec.{ltb, leb, eqb}
 use lib.ListN.{length, get_or, replicate}
+use Rattle.std.specs.List.{list_all}
+use Rattle.std.specs.List as pairs
 use Rattle.common.specs.Choice.{choose}
 use Rattle.common.specs.Places.{zip, every}
 use Rattle.common.proofs.Cases.{chosen}
@@ -57,6 +59,14 @@ within_at (d ∷ ds) [] i a o p q r = absurd (not-suc-le-zero q)
 within_at (d ∷ ds) (k ∷ os) zero a o p q r = and_left (organ_within d k) (every (zip organ_within ds os)) r
 within_at (d ∷ ds) (k ∷ os) (suc i) a o p q r =
     within_at ds os i a o (le_of_suc-le-suc p) (le_of_suc-le-suc q) (and_right (organ_within d k) (every (zip organ_within ds os)) r)
+
+-- the test of each place, as the library asks it of both lists
+pub all_within : (os : List Organ) (ds : List ℕ) → list_all (λ (p : Organ × ℕ). organ_within p.1 p.0) (pairs.zip os ds) ≡ organs_within ds os
+unfolding organs_within every zip
+all_within [] [] = refl
+all_within [] (d ∷ ds) = refl
+all_within (o ∷ os) [] = refl
+all_within (o ∷ os) (d ∷ ds) = rw (all_within os ds)
 
 -- a cleared organ is within any
 pub cleared_within : (d : ℕ) → organ_within d cleared ≡ true

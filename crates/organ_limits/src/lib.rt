@@ -7,6 +7,7 @@ ghost use Rattle.organ_limits.specs.Limits.{organ_within, organs_within};
 use organ::Organ;
 
 // Whether an organ is within a record's limits: a count of at most its delay, and of 0 if it is not marked.
+#[tactic(auto, unfolding(crate::specs::Limits::organ_within))]
 fn organ_within(o: Organ, delay: u32) -> bool
     ensures { result ≡ organ_within delay o }
 {
@@ -17,12 +18,8 @@ fn organ_within(o: Organ, delay: u32) -> bool
 pub fn organs_within(organs: [Organ; 7], delays: [u32; 7]) -> bool
     ensures { result ≡ organs_within delays organs }
 {
-    let mut i: usize = 0;
-    while i < 7 {
-        if !organ_within(organs[i], delays[i]) {
-            return false;
-        }
-        i += 1;
-    }
-    true
+    organs
+        .iter()
+        .zip(delays.iter())
+        .all(|(organ, delay)| organ_within(*organ, *delay))
 }

@@ -6,6 +6,7 @@ use Prim.Native.Nat.{ℕ, zero, suc, ◌+◌, ◌*◌, ◌<◌, ◌≤◌, ◌^�
 use native.Mathlib.Nat.{le_trans, le_of_eq, mul_assoc, mul-le-mul_left}
 use native.Mathlib.Omega.{arith}
 use borrow.Author.Rules.{rules}
+use Rattle.std.specs.Prelude.{Option, None, Some}
 use borrow.Author.Tests.{lt-ltb, leb-true}
 use lib.IntN.{ℤ, pos, negsuc, nat_abs, ◌-ℤ◌}
 use lib.Ieee.{Float}
@@ -13,24 +14,15 @@ use lib.Ieee.Scale.{finite}
 use lib.Ieee.Positive.{num, den, den_pos}
 use mir.Syntax.{w64}
 use mir.Val.{SFits, to_z}
-use mir.Facts.{to_z-of_z}
 use Rattle.common.proofs.Joined.{and_right}
 use Rattle.common.proofs.Signed.{Stands, literal, small, fits, read, back, cast, sub}
 use Rattle.measure.specs.Exact.{thousandths}
+use Rattle.measure.specs.Readings.{if_in_range}
 use Rattle.measure.proofs.Laws.{nearest_le}
-use Rattle.measure.specs.declared.Converted.{Converted}
-use Rattle.measure.specs.declared.Converted.TheVariants as converted
-use Rattle.measure.specs.declared.Reading.TheVariants.{Good, Held, Invalid}
-use Rattle.phasor.specs.Pairs.{part_in_range, with_sign, minus, signed_thousandths, if_in_range, part_of, fresh_of, paired_of, counted_of, vector_of, Within}
-use Rattle.phasor.specs.Parts.{signed_of}
-use Rattle.phasor.specs.declared.Fresh.{Fresh}
-use Rattle.phasor.specs.declared.Fresh.TheVariants as fresh
+use Rattle.phasor.specs.Pairs.{part_in_range, with_sign, minus, signed_thousandths, part_of, fresh_of, paired_of, counted_of, vector_of, Within}
 use Rattle.phasor.specs.declared.Numbers.{Numbers}
-use Rattle.phasor.specs.declared.Part.{Part}
-use Rattle.phasor.specs.declared.Part.TheVariants.{OutOfRange, Whole}
 use Rattle.phasor.specs.declared.Phasor.{Phasor}
 use Rattle.phasor.specs.declared.Vector.{Vector}
-use Rattle.phasor.specs.declared.Vector.TheVariants.{Missing, Is}
 
 -- ---- a magnitude with its sign
 
@@ -64,61 +56,12 @@ module _ (n : ℕ) (h : n < 2 ^ 32) where
 
 pub ruleset signs = (minus_fits, minus_is, minus_small, plus_is, plus_small, rules)
 
-module _ (r : Part) (s : Bool) (a : Converted) where
-  pub signed_whole : (n : ℕ) (z : ℤ) → a ≡ converted.Whole n → z ≡ with_sign s n → nat_abs z ≤ 2 ^ 32 → r ≡ Whole (read z) → r ≡ signed_of s a
-  unfolding signed_of
-  signed_whole n z p e l q = let here : read z ≡ z = (back (record { is = refl; within = l }) tt).is in rw p (q ∙ ap Whole (here ∙ e))
-
-  pub signed_out : a ≡ converted.OutOfRange → r ≡ OutOfRange → r ≡ signed_of s a
-  unfolding signed_of
-  signed_out p q = rw p q
-
-pub ruleset signing = (signed_whole, signed_out, rules)
-
--- ---- pairs
-
-module _ (r : Fresh) (p : Phasor) where
-  pub both_fresh : (x y : Float) → p.re ≡ Good x → p.im ≡ Good y → r ≡ fresh.Both (record { re = x; im = y }) → r ≡ fresh_of p
-  unfolding fresh_of
-  both_fresh x y e f q = rw (e, f) q
-
-  pub second_held : (x y : Float) → p.re ≡ Good x → p.im ≡ Held y → r ≡ fresh.Missing → r ≡ fresh_of p
-  unfolding fresh_of
-  second_held x y e f q = rw (e, f) q
-
-  pub second_invalid : (x : Float) → p.re ≡ Good x → p.im ≡ Invalid → r ≡ fresh.Missing → r ≡ fresh_of p
-  unfolding fresh_of
-  second_invalid x e f q = rw (e, f) q
-
-  pub first_held : (x : Float) → p.re ≡ Held x → r ≡ fresh.Missing → r ≡ fresh_of p
-  unfolding fresh_of
-  first_held x e q = rw e q
-
-  pub first_invalid : p.re ≡ Invalid → r ≡ fresh.Missing → r ≡ fresh_of p
-  unfolding fresh_of
-  first_invalid e q = rw e q
-
-module _ (r : Vector) (a b : Part) where
-  pub first_out : a ≡ OutOfRange → r ≡ Missing → r ≡ paired_of a b
-  unfolding paired_of
-  first_out p q = rw p q
-
-  pub second_out : (x : ℤ) → a ≡ Whole x → b ≡ OutOfRange → r ≡ Missing → r ≡ paired_of a b
-  unfolding paired_of
-  second_out x p e q = rw (p, e) q
-
-  pub both_in : (x y : ℤ) → a ≡ Whole x → b ≡ Whole y → SFits w64 x → SFits w64 y → r ≡ Is (read x) (read y) → r ≡ paired_of a b
-  unfolding paired_of
-  both_in x y p e f g q = rw (p, e) (cc (to_z-of_z f, to_z-of_z g))
-
-pub ruleset pairs = (both_fresh, second_held, second_invalid, first_held, first_invalid, first_out, second_out, both_in, rules)
-
 -- ---- no part is above its limit
 
 -- a part's magnitude is not above n
-abbrev PartWithin : ℕ → Part → Type 0
-PartWithin n OutOfRange = Unit
-PartWithin n (Whole z) = nat_abs z ≤ n
+abbrev PartWithin : ℕ → Option ℤ → Type 0
+PartWithin n None = Unit
+PartWithin n (Some z) = nat_abs z ≤ n
 
 sign_le : (s : Bool) (n m : ℕ) → n ≤ m → nat_abs (with_sign s n) ≤ m
 unfolding with_sign
@@ -137,27 +80,27 @@ part_le l x = go (part_in_range l x) refl
         (nearest_le (1000 * num x) (den x) (1000 * l) (den_pos x)
         (le_trans (mul-le-mul_left 1000 (leb-true (num x) (l * den x) (and_right (finite x) _ e))) (le_of_eq (sym (mul_assoc 1000 l (den x))))))
 
-paired_le : (n : ℕ) (a b : Part) → PartWithin n a → PartWithin n b → Within n (paired_of a b)
+paired_le : (n : ℕ) (a b : Option ℤ) → PartWithin n a → PartWithin n b → Within n (paired_of a b)
 unfolding paired_of Within
-paired_le n OutOfRange b h k = tt
-paired_le n (Whole x) OutOfRange h k = tt
-paired_le n (Whole x) (Whole y) h k = (h, k)
+paired_le n None b h k = tt
+paired_le n (Some x) None h k = tt
+paired_le n (Some x) (Some y) h k = (h, k)
 
-counted_le : (l : ℕ) (f : Fresh) → Within (1000 * l) (counted_of l f)
+counted_le : (l : ℕ) (f : Option Numbers) → Within (1000 * l) (counted_of l f)
 unfolding counted_of Within
-counted_le l fresh.Missing = tt
-counted_le l (fresh.Both n) = paired_le (1000 * l) _ _ (part_le l n.re) (part_le l n.im)
+counted_le l None = tt
+counted_le l (Some n) = paired_le (1000 * l) _ _ (part_le l n.re) (part_le l n.im)
 
-pub counted : (l : ℕ) (p : Phasor) {v : Vector} → v ≡ vector_of l p → (v ≡ vector_of l p) × Within (1000 * l) v
+pub counted : (l : ℕ) (p : Phasor) {v : Option Vector} → v ≡ vector_of l p → (v ≡ vector_of l p) × Within (1000 * l) v
 unfolding vector_of
 counted l p e = (e, rw e (counted_le l (fresh_of p)))
 
-module _ (l : ℕ) (p : Phasor) (f : Fresh) (is : f ≡ fresh_of p) where
-  pub pair_missing : (v : Vector) → f ≡ fresh.Missing → v ≡ Missing → v ≡ vector_of l p
+module _ (l : ℕ) (p : Phasor) (f : Option Numbers) (is : f ≡ fresh_of p) where
+  pub pair_missing : (v : Option Vector) → f ≡ None → v ≡ None → v ≡ vector_of l p
   unfolding vector_of counted_of
   pair_missing v e q = rw (← is, e) q
 
-  pub pair_both : (v : Vector) (n : Numbers) (a b : Part) → f ≡ fresh.Both n → a ≡ part_of l n.re → b ≡ part_of l n.im → v ≡ paired_of a b → v ≡ vector_of l p
+  pub pair_both : (v : Option Vector) (n : Numbers) (a b : Option ℤ) → f ≡ Some n → a ≡ part_of l n.re → b ≡ part_of l n.im → v ≡ paired_of a b → v ≡ vector_of l p
   unfolding vector_of counted_of
   pair_both v n a b e q r w = rw (← is, e) (cc)
 

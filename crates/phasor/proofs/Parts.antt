@@ -7,31 +7,27 @@ use Prim.Native.Nat.{ℕ, zero, suc, ◌+◌, ◌*◌, ◌/◌, ◌%◌}
 use native.Mathlib.Nat.{mod-lt}
 use native.Mathlib.Omega.{arith}
 use borrow.Author.Rules.{rules}
+use Rattle.std.specs.Prelude.{Option, None, Some}
+use Rattle.std.proofs.lemmas.Option.{none-some}
 use lib.Dec.{T, leb, eqb, lit<}
 use lib.IntN.{ℤ}
 use lib.Ieee.{Float, nan, inf, fin, binary32, up, down, odd, of_fields, to_bits, fits, neg}
 use Rattle.measure_front.proofs.FirstStep.{is_missing_lem}
 use Rattle.measure_front.proofs.Fronts.{minus_nan, minus_inf, minus_fin}
 use Rattle.measure.specs.Exact.{in_range, thousandths}
-use Rattle.measure.specs.Readings as readings
-use Rattle.measure.specs.Readings.{limit_of, good_of, measured_of, converted_of, number_of}
+use Rattle.measure.specs.Readings.{limit_of, if_in_range, good_of, measured_of, converted_of, number_of}
 use Rattle.measure.specs.Fields.{fractions, minus_of, exponent_of, number_fraction}
 use Rattle.measure_front.specs.Judging.{Judges, JudgedBy}
 use Rattle.measure_front.specs.Fronts.{handed, reading_of, EveryFractionMissing, number_front, front_of, fraction_of}
 use Rattle.measure.specs.declared.Channel.{Channel}
-use Rattle.measure.specs.declared.Converted.{Converted}
 use Rattle.measure.specs.declared.Measured.TheVariants as measured
 use Rattle.measure.specs.declared.Reading.TheVariants.{Good}
 use Rattle.measure_front.specs.declared.Front.{Front}
-use Rattle.measure_front.specs.declared.Judged.{Judged}
-use Rattle.measure_front.specs.declared.Judged.TheVariants as judged
 use Rattle.measure_front.specs.declared.Passed.{Passed}
 use Rattle.measure_front.specs.declared.Quality.{Quality}
 use Rattle.measure_front.specs.declared.Quality.TheVariants as quality
-use Rattle.phasor.specs.Pairs.{part_in_range, with_sign, minus, signed_thousandths, if_in_range, part_of}
+use Rattle.phasor.specs.Pairs.{part_in_range, with_sign, minus, signed_thousandths, part_of}
 use Rattle.phasor.specs.Parts.{EveryFractionOut, PartJudges, magnitude_of, signed_of}
-use Rattle.phasor.specs.declared.Part.{Part}
-use Rattle.phasor.specs.declared.Part.TheVariants.{OutOfRange, Whole}
 
 -- ---- the first step
 
@@ -54,13 +50,9 @@ magnitude_range l s (suc x) t = go (eqb (suc x) 255) (eqb t 0)
     go true false = refl
     go false b = odd_range l 24 s (0x80_0000 + t) x 149
 
-is_out_lem : Part → Bool
-is_out_lem OutOfRange = true
-is_out_lem (Whole z) = false
-
-missing_out : (a b : Bool) (n : ℕ) (z : ℤ) → b ≡ a → (good_of (readings.if_in_range a n) ≡ measured.Missing) ↔ (if_in_range b z ≡ OutOfRange)
-unfolding good_of is_missing_lem is_out_lem
-missing_out true true n z e = (λ h. absurd (true≢false (sym (ap is_missing_lem h))), λ h. absurd (true≢false (sym (ap is_out_lem h))))
+missing_out : (a b : Bool) (n : ℕ) (z : ℤ) → b ≡ a → (good_of (if_in_range a n) ≡ measured.Missing) ↔ (if_in_range b z ≡ None)
+unfolding good_of is_missing_lem
+missing_out true true n z e = (λ h. absurd (true≢false (sym (ap is_missing_lem h))), λ h. absurd (none-some z (sym h)))
 missing_out false false n z e = (λ h. refl, λ h. refl)
 missing_out true false n z e = absurd (true≢false (sym e))
 missing_out false true n z e = absurd (true≢false e)
@@ -69,18 +61,18 @@ same_fractions : (limit : ℕ) (s : Bool) (x : ℕ) → EveryFractionMissing lim
 unfolding EveryFractionMissing EveryFractionOut reading_of measured_of part_of
 same_fractions limit s x = (λ all. λ t small. (same t).0 (all t small), λ all. λ t small. (same t).1 (all t small))
   where
-    same : (t : ℕ) → (measured_of limit (Good (of_fields binary32 false x t)) ≡ measured.Missing) ↔ (part_of limit (of_fields binary32 s x t) ≡ OutOfRange)
+    same : (t : ℕ) → (measured_of limit (Good (of_fields binary32 false x t)) ≡ measured.Missing) ↔ (part_of limit (of_fields binary32 s x t) ≡ None)
     same t =
         missing_out (in_range limit (of_fields binary32 false x t)) (part_in_range limit (of_fields binary32 s x t)) (thousandths (of_fields binary32 false x t)) (signed_thousandths (of_fields binary32 s x t))
         (magnitude_range limit s x t)
 
 -- the first step's answer for a front without sign is a part's
-by_answer : (c : Channel) (x : ℕ) (j : Judged) → Judges c (record { quality = quality.Good; minus = false; exponent = x }) j → PartJudges c x j
+by_answer : (c : Channel) (x : ℕ) (j : Option Passed) → Judges c (record { quality = quality.Good; minus = false; exponent = x }) j → PartJudges c x j
 unfolding Judges PartJudges
-by_answer c x judged.Missing h = λ s. (same_fractions (limit_of c) s x).0 h
-by_answer c x (judged.Passed p) h = (λ s all. h.0 ((same_fractions (limit_of c) s x).1 all), h.1)
+by_answer c x None h = λ s. (same_fractions (limit_of c) s x).0 h
+by_answer c x (Some p) h = (λ s all. h.0 ((same_fractions (limit_of c) s x).1 all), h.1)
 
-pub part_judged : (c : Channel) (x : ℕ) (f : Front) (j : Judged) → f ≡ record { quality = quality.Good; minus = false; exponent = x } → Judges c f j → PartJudges c x j
+pub part_judged : (c : Channel) (x : ℕ) (f : Front) (j : Option Passed) → f ≡ record { quality = quality.Good; minus = false; exponent = x } → Judges c f j → PartJudges c x j
 part_judged c x f j front told = by_answer c x j (subst (λ (g : Front). Judges c g j) front told)
 
 -- ---- both steps
@@ -91,7 +83,7 @@ sign_is nan fit = minus_nan
 sign_is (inf s) fit = minus_inf s
 sign_is (fin s m e) fit = minus_fin s m e fit
 
-signed_counted : (s b : Bool) (n : ℕ) → signed_of s (readings.if_in_range b n) ≡ if_in_range b (with_sign s n)
+signed_counted : (s b : Bool) (n : ℕ) → signed_of s (if_in_range b n) ≡ if_in_range b (with_sign s n)
 unfolding signed_of
 signed_counted s true n = refl
 signed_counted s false n = refl
@@ -134,8 +126,8 @@ unsigned true (inf s) fit is = (minus_inf (not s) ∙ ap not (sym (minus_inf s) 
 unsigned true (fin false m e) fit is = absurd (true≢false (is ∙ minus_fin false m e fit))
 unsigned true (fin true m e) fit is = (minus_fin false m e (fits_unsigned m e fit), exponent_unsigned m e)
 
-module _ (c : Channel) (x : Float) (f : Front) (front : f ≡ front_of (Good x)) (j : Judged) (told : PartJudges c f.exponent j) (r : Part) where
-  pub part_counted : T (fits binary32 x) → (p : Passed) (size : Float) (a : Converted) → j ≡ judged.Passed p → size ≡ magnitude_of f.minus x
+module _ (c : Channel) (x : Float) (f : Front) (front : f ≡ front_of (Good x)) (j : Option Passed) (told : PartJudges c f.exponent j) (r : Option ℤ) where
+  pub part_counted : T (fits binary32 x) → (p : Passed) (size : Float) (a : Option ℕ) → j ≡ Some p → size ≡ magnitude_of f.minus x
       → (JudgedBy p size → a ≡ converted_of (limit_of p.channel) size) → r ≡ signed_of f.minus a → r ≡ part_of (limit_of c) x
   unfolding front_of number_front PartJudges JudgedBy
   part_counted fit p size a is without promise q =
@@ -147,7 +139,7 @@ module _ (c : Channel) (x : Float) (f : Front) (front : f ≡ front_of (Good x))
       ∙ ap (signed_of f.minus) (promise (sign, same) ∙ ap (λ (k : Passed). converted_of (limit_of k.channel) size) held ∙ ap (converted_of (limit_of c)) without)
       ∙ by_sign (limit_of c) x f.minus (ap (λ (g : Front). g.minus) front ∙ sign_is x fit)
 
-  pub part_stopped : reading_of f (fraction_of (Good x)) ≡ Good x → j ≡ judged.Missing → r ≡ OutOfRange → r ≡ part_of (limit_of c) x
+  pub part_stopped : reading_of f (fraction_of (Good x)) ≡ Good x → j ≡ None → r ≡ None → r ≡ part_of (limit_of c) x
   unfolding front_of number_front reading_of fraction_of number_of PartJudges EveryFractionOut
   part_stopped whole is q =
       let number = of_fields binary32 f.minus f.exponent (number_fraction x) in
@@ -157,13 +149,4 @@ module _ (c : Channel) (x : Float) (f : Front) (front : f ≡ front_of (Good x))
       let out = subst (PartJudges c f.exponent) is told in
       q ∙ sym (out f.minus (number_fraction x) (mod-lt (to_bits binary32 x) (lit< tt))) ∙ ap (part_of (limit_of c)) same
 
-module _ (y : Float) (s : Bool) (x : Float) where
-  pub magnitude_below : s ≡ true → y ≡ neg x → y ≡ magnitude_of s x
-  unfolding magnitude_of
-  magnitude_below h q = rw h q
-
-  pub magnitude_above : s ≡ false → y ≡ x → y ≡ magnitude_of s x
-  unfolding magnitude_of
-  magnitude_above h q = rw h q
-
-pub ruleset parts = (part_judged, part_counted, part_stopped, magnitude_below, magnitude_above, rules)
+pub ruleset parts = (part_judged, part_counted, part_stopped, rules)

@@ -7,8 +7,8 @@ ghost use Rattle.measure.specs.Readings.{limit_of};
 ghost use Rattle.phasor.specs.Pairs.{fresh_of, with_sign, part_of, paired_of, vector_of, Within};
 ghost use Rattle.phasor.specs.Parts.{PartJudges, magnitude_of, signed_of};
 
-use measure::{Channel, Converted, Reading};
-use measure_front::{Front, Judged, Quality};
+use measure::{Channel, Reading};
+use measure_front::{Front, Passed, Quality};
 
 // What the module hands over: the two parts, in V or A.
 #[derive(Clone, Copy)]
@@ -32,44 +32,26 @@ struct Numbers {
     im: f32,
 }
 
-#[derive(Clone, Copy)]
-enum Fresh {
-    Missing,
-    Both(Numbers),
-}
-
-// A part in signed thousandths, or none where its number is out of range.
-#[derive(Clone, Copy)]
-enum Part {
-    OutOfRange,
-    Whole(i64),
-}
-
-// What a pair counts as, in mV or mA.
-#[derive(Clone, Copy)]
-pub enum Vector {
-    Missing,
-    Is { re: i64, im: i64 },
+// A pair in mV or mA.
+#[derive(Clone, Copy, PartialEq, Eq)]
+pub struct Vector {
+    pub re: i64,
+    pub im: i64,
 }
 
 // The numbers of a pair, if both parts are Good.
-fn both_good(p: Phasor) -> Fresh
+#[tactic(auto, unfolding(crate::specs::Pairs::fresh_of))]
+fn both_good(p: Phasor) -> Option<Numbers>
     ensures { result ≡ fresh_of p }
 {
-    let a = p.re;
-    let b = p.im;
-    match a {
-        Reading::Good(x) => match b {
-            Reading::Good(y) => Fresh::Both(Numbers { re: x, im: y }),
-            Reading::Held(_) => Fresh::Missing,
-            Reading::Invalid => Fresh::Missing,
-        },
-        Reading::Held(_) => Fresh::Missing,
-        Reading::Invalid => Fresh::Missing,
+    match (p.re, p.im) {
+        (Reading::Good(re), Reading::Good(im)) => Some(Numbers { re, im }),
+        _ => None,
     }
 }
 
 // A magnitude with its sign.
+#[tactic(auto, using(crate::proofs::Laws::signs))]
 fn with_sign(negative: bool, n: u32) -> i64
     ensures { (result ≡ with_sign negative n) × (nat_abs result ≤ 2 ^ 32) }
 {
@@ -77,16 +59,15 @@ fn with_sign(negative: bool, n: u32) -> i64
 }
 
 // A converted magnitude with its sign.
-fn signed(negative: bool, a: Converted) -> Part
+#[tactic(auto, unfolding(crate::specs::Parts::signed_of))]
+fn signed(negative: bool, a: Option<u32>) -> Option<i64>
     ensures { result ≡ signed_of negative a }
 {
-    match a {
-        Converted::OutOfRange => Part::OutOfRange,
-        Converted::Whole(n) => Part::Whole(with_sign(negative, n)),
-    }
+    Some(with_sign(negative, a?))
 }
 
 // A number without its sign.
+#[tactic(auto, unfolding(crate::specs::Parts::magnitude_of))]
 fn magnitude(negative: bool, x: f32) -> f32
     ensures { result ≡ magnitude_of negative x }
 {
@@ -94,7 +75,8 @@ fn magnitude(negative: bool, x: f32) -> f32
 }
 
 // The first step of a part: a reading's, with the sign taken off.
-fn judge_part(c: Channel, exponent: u8) -> Judged
+#[tactic(auto, using(crate::proofs::Parts::parts))]
+fn judge_part(c: Channel, exponent: u8) -> Option<Passed>
     ensures { PartJudges c exponent result }
 {
     measure_front::judge(
@@ -108,38 +90,28 @@ fn judge_part(c: Channel, exponent: u8) -> Judged
 }
 
 // One part: what its magnitude counts as, with the sign kept. Its fraction is looked at only if its exponent passes.
-fn measure_part(c: Channel, x: f32) -> Part
+#[tactic(auto, using(crate::proofs::Parts::parts))]
+fn measure_part(c: Channel, x: f32) -> Option<i64>
     ensures { result ≡ part_of (limit_of c) x }
 {
     let f = measure_front::front_of(Reading::Good(x));
-    let j = judge_part(c, f.exponent);
-    match j {
-        Judged::Missing => Part::OutOfRange,
-        Judged::Passed(p) => signed(f.minus, measure_fraction::convert(p, magnitude(f.minus, x))),
-    }
+    let p = judge_part(c, f.exponent)?;
+    signed(f.minus, measure_fraction::convert(p, magnitude(f.minus, x)))
 }
 
 // Two parts, each of which is needed.
-fn paired(a: Part, b: Part) -> Vector
+#[tactic(auto, unfolding(crate::specs::Pairs::paired_of))]
+fn paired(a: Option<i64>, b: Option<i64>) -> Option<Vector>
     ensures { result ≡ paired_of a b }
 {
-    match a {
-        Part::OutOfRange => Vector::Missing,
-        Part::Whole(re) => match b {
-            Part::OutOfRange => Vector::Missing,
-            Part::Whole(im) => Vector::Is { re, im },
-        },
-    }
+    Some(Vector { re: a?, im: b? })
 }
 
 // What a pair counts as; no part's magnitude is above the channel's limit.
-pub fn measure_pair(c: Channel, p: Phasor) -> Vector
+pub fn measure_pair(c: Channel, p: Phasor) -> Option<Vector>
     ensures each { result ≡ vector_of (limit_of c) p }
     ensures within { Within (1000 * limit_of c) result }
 {
-    let f = both_good(p);
-    match f {
-        Fresh::Missing => Vector::Missing,
-        Fresh::Both(n) => paired(measure_part(c, n.re), measure_part(c, n.im)),
-    }
+    let n = both_good(p)?;
+    paired(measure_part(c, n.re), measure_part(c, n.im))
 }

@@ -7,15 +7,13 @@ ghost use Rattle.quality.specs.Quality.{reading_by};
 use measure::Reading;
 
 // 0 Good, 1 Held; any other number is Invalid, and the float is not looked at.
+#[tactic(auto, using(common::proofs::Cases::cases), unfolding(crate::specs::Quality::reading_by))]
 pub fn reading_by(quality: u32, x: f32) -> Reading
     ensures { result ≡ reading_by quality x }
 {
-    if quality == 0 {
-        return Reading::Good(x);
-    }
-    if quality == 1 {
-        Reading::Held(x)
-    } else {
-        Reading::Invalid
+    match quality {
+        0 => Reading::Good(x),
+        1 => Reading::Held(x),
+        _ => Reading::Invalid,
     }
 }

@@ -1,4 +1,3 @@
 pub mod Made
 pub mod OfKind
 pub mod Opened
-pub mod Waits

@@ -7,7 +7,8 @@ use Prim.Native.Nat.{ℕ}
 use lib.Dec.{leb, eqb}
 use Rattle.slots.specs.Slots.{slot, t8, n_l, n_r}
 use Rattle.sheet.specs.Sheet.{passes_of}
-use Rattle.ways.specs.declared.Way.{Way}
+use Rattle.std.specs.Prelude.{Option}
+use Rattle.ways.specs.declared.Direction.{Direction}
 use Rattle.ways.specs.Ways.{raises, lowers}
 use Rattle.organ.specs.declared.Organ.{Organ}
 use Rattle.organ_limits.specs.Limits.{organs_within}
@@ -25,7 +26,7 @@ use Rattle.record.specs.Whole.{regulator_of}
 use Rattle.record_limits.specs.Limits.{ticks_of, delays_of, kind_within, motion_within, press_within, counts_within, within_of}
 
 -- the drive, the wait and the fault
-pub motion_made : (s : List ℕ) (d : Drive) (w : Wait) (l : Latch) {ticks : ℕ} {rests moves fault latched : Bool} → ticks ≡ ticks_of w
+pub motion_made : (s : List ℕ) (d : Drive) (w : Option Wait) (l : Latch) {ticks : ℕ} {rests moves fault latched : Bool} → ticks ≡ ticks_of w
     → rests ≡ rests_of d
     → moves ≡ kind_within s d l.fault
     → fault ≡ is_fault l.fault
@@ -33,12 +34,6 @@ pub motion_made : (s : List ℕ) (d : Drive) (w : Wait) (l : Latch) {ticks : ℕ
     → (leb ticks longest_wait && (rests || eqb ticks 0) && moves && (not fault || rests) && latched) ≡ motion_within s d w l
 unfolding motion_within
 motion_made s d w l p q u v z = rw (p, q, u, v, z)
-
--- the press
-pub press_made : (f : Fault) (press : Way) {fault raise lower : Bool} → fault ≡ is_fault f → raise ≡ raises press → lower ≡ lowers press
-    → not (fault && (raise || lower)) ≡ press_within f press
-unfolding press_within
-press_made f press p q u = rw (p, q, u)
 
 -- the counts
 pub counts_made : (s : List ℕ) (organs : List Organ) (w : Wear) {delays : List ℕ} {marks : Bool} → delays ≡ delays_of s

@@ -14,10 +14,11 @@ use Rattle.drive.specs.declared.Drive.TheVariants.{Resting}
 use Rattle.drive_follow.specs.Follow as follow
 use Rattle.drive_hold.specs.Hold as hold
 use Rattle.fault.specs.declared.Fault.{Fault}
+use Rattle.std.specs.Prelude.{Option}
 use Rattle.fault.specs.Latches.{long_or_none}
 use Rattle.record_limits.specs.Limits.{kind_within}
 
-module _ (s : List ℕ) (d : Drive) (f : Fault) where
+module _ (s : List ℕ) (d : Drive) (f : Option Fault) where
   -- without a switching contact
   pub held_kind : is_continuous s ≡ true → hold.within_of d (slot s t4) ≡ true → long_or_none f ≡ true → kind_within s d f ≡ true
   unfolding kind_within
@@ -33,12 +34,12 @@ module _ (s : List ℕ) (d : Drive) (f : Fault) where
   contact_kind c w = sym (no _ _ _ _ c (sym w))
 
 -- a drive at rest is within them, whatever its kind
-pub rest_kind : (s : List ℕ) (f : Fault) → long_or_none f ≡ true → kind_within s Resting f ≡ true
+pub rest_kind : (s : List ℕ) (f : Option Fault) → long_or_none f ≡ true → kind_within s Resting f ≡ true
 unfolding hold.within_of follow.within_of
 rest_kind s f l = ⊎_elim (λ c. held_kind s Resting f c refl l) (λ c. contact_kind s Resting f c refl) (split (is_continuous s))
 
 -- as the function finds it
-module _ (s : List ℕ) (d : Drive) (f : Fault) {b : Bool} where
+module _ (s : List ℕ) (d : Drive) (f : Option Fault) {b : Bool} where
   pub kind_held : {held long : Bool} → slot s continuous ≡ 1 → held ≡ hold.within_of d (slot s t4) → long ≡ long_or_none f → b ≡ (held && long)
       → b ≡ kind_within s d f
   unfolding kind_within

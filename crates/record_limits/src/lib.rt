@@ -12,17 +12,15 @@ use fault::{Fault, Latch};
 use organ::Organ;
 use record::State;
 use slots::{CONTINUOUS, N_L, N_R, ORGAN_DELAYS, SLOTS, T4, T5, T8};
-use ways::Way;
+use ways::Direction;
 
-fn wait_ticks(w: Wait) -> u32
+#[tactic(auto, unfolding(crate::specs::Limits::ticks_of))]
+fn wait_ticks(w: Option<Wait>) -> u32
     ensures { result ≡ ticks_of w }
 {
     match w {
-        Wait::Idle => 0,
-        Wait::For {
-            direction: _,
-            ticks,
-        } => ticks,
+        Some(w) => w.ticks,
+        None => 0,
     }
 }
 
@@ -42,47 +40,43 @@ fn organ_delays(s: &[u32; SLOTS]) -> [u32; 7]
 }
 
 // What the kind of drive allows: an asked command, a move and a fault.
-fn kind_within(s: &[u32; SLOTS], d: Drive, f: Fault) -> bool
+#[tactic(auto, using(crate::proofs::OfKind::kinds))]
+fn kind_within(s: &[u32; SLOTS], d: Drive, f: Option<Fault>) -> bool
     ensures { result ≡ kind_within s.now d f }
 {
     if s[CONTINUOUS] == 1 {
         let held = drive_hold::within(d, s[T4]);
-        let long = fault::is_long_or_none(f);
-        held & long
+        held & fault::is_long_or_none(f)
     } else {
         drive_follow::within(d, s[T4], s[T5])
     }
 }
 
 // The drive, the wait and the fault.
-fn motion_within(s: &[u32; SLOTS], d: Drive, w: Wait, l: Latch) -> bool
+fn motion_within(s: &[u32; SLOTS], d: Drive, w: Option<Wait>, l: Latch) -> bool
     ensures { result ≡ motion_within s.now d w l }
 {
     let ticks = wait_ticks(w);
     let rests = drive_follow::rests(d);
-    let f = l.fault;
-    let moves = kind_within(s, d, f);
-    let fault = fault::is_fault(f);
+    let moves = kind_within(s, d, l.fault);
+    let fault = fault::is_fault(l.fault);
     let latched = fault_latch::latch_within(l, s[T8]);
     (ticks <= LONGEST_WAIT) & (rests | (ticks == 0)) & moves & (!fault | rests) & latched
 }
 
 // No press is remembered beside a fault.
-fn press_within(f: Fault, press: Way) -> bool
+#[tactic(auto, unfolding(crate::specs::Limits::press_within))]
+fn press_within(f: Option<Fault>, press: Option<Direction>) -> bool
     ensures { result ≡ press_within f press }
 {
-    let fault = fault::is_fault(f);
-    let raises = ways::to_raise(press);
-    let lowers = ways::to_lower(press);
-    !(fault & (raises | lowers))
+    !(f.is_some() & press.is_some())
 }
 
 // The organs, the counted tap and the operations.
 fn counts_within(s: &[u32; SLOTS], organs: [Organ; 7], w: Wear) -> bool
     ensures { result ≡ counts_within s.now organs w }
 {
-    let delays = organ_delays(s);
-    let marks = organ_limits::organs_within(organs, delays);
+    let marks = organ_limits::organs_within(organs, organ_delays(s));
     let tap = w.counted_tap;
     marks & (s[N_L] <= tap) & (tap <= s[N_R]) & (w.operations <= MOST_OPERATIONS)
 }
@@ -91,17 +85,9 @@ fn counts_within(s: &[u32; SLOTS], organs: [Organ; 7], w: Wear) -> bool
 pub fn within(s: &[u32; SLOTS], m: State) -> bool
     ensures { result ≡ within_of (regulator_of s.now m) }
 {
-    let drive = m.drive;
-    let latch = m.latch;
-    let fault = latch.fault;
-    let memory = m.memory;
-    let wait = memory.wait;
-    let remembered = memory.remembered;
-    let organs = m.organs;
-    let wear = m.wear;
     let passes = sheet_judging::passes(s);
-    let motion = motion_within(s, drive, wait, latch);
-    let press = press_within(fault, remembered);
-    let counts = counts_within(s, organs, wear);
+    let motion = motion_within(s, m.drive, m.memory.wait, m.latch);
+    let press = press_within(m.latch.fault, m.memory.remembered);
+    let counts = counts_within(s, m.organs, m.wear);
     passes & motion & press & counts
 }

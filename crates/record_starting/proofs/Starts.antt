@@ -1,29 +1,26 @@
 -- The record that a sheet gives, over plain values; a fresh record is within its limits.
 -- Assumes nothing.
-use mathlib.Core.Path.{◌≡◌, refl, sym, ap, ◌∙◌, subst}
-use mathlib.Core.Bool.{Bool, true, false}
+use mathlib.Core.Path.{◌≡◌, refl, sym, ap, ◌∙◌}
+use mathlib.Core.Bool.{true}
 use mathlib.Core.List.{List}
 use mathlib.Core.Logic.{◌↔◌}
 use Prim.Native.Nat.{ℕ}
 use native.Mathlib.Omega.{arith}
 use borrow.Author.Tests.{le-leb}
-use lib.Dec.{eqb}
-use Rattle.common.proofs.Cases.{yes, no}
 use Rattle.slots.specs.Slots.{slot, t8, n_start}
-use Rattle.sheet.specs.declared.Answer.{Answer}
-use Rattle.sheet.specs.declared.Answer.TheVariants.{Taken, WrongLength, OutOfRange, TapOrder, CountedTap}
-use Rattle.sheet.specs.declared.Sheet.{Sheet}
+use Rattle.std.specs.Prelude.{Result, Ok, Err, IsOk, IfOk, is_ok, None}
+use Rattle.common.specs.Choice.{choose}
+use Rattle.sheet.specs.declared.Refusal.{Refusal}
+use Rattle.sheet.specs.declared.Refusal.TheVariants.{WrongLength, OutOfRange, TapOrder, CountedTap}
 use Rattle.sheet.specs.Settings.{Settings}
-use Rattle.sheet.specs.Sheet.{number_of, is_taken, answer_of, sheet_with, sheet_of, passes_of, reply_of, returned_of}
+use Rattle.sheet.specs.Sheet.{answer_of, sheet_with, sheet_of, passes_of, reply_of, returned_of}
 use Rattle.sheet.proofs.Laws.{taken_pass, taps_range, n_start_most}
 use Rattle.organ_limits.proofs.Within.{all_cleared_within}
-use Rattle.fault.specs.declared.Fault.TheVariants.{NoFault}
 use Rattle.acting_accounting.specs.Accounting.{most_operations}
 use Rattle.record.specs.declared.Regulator.{Regulator}
-use Rattle.record_starting.specs.declared.Started.{Started}
 use Rattle.record_limits.specs.Limits.{ticks_of, delays_of, motion_within, press_within, counts_within, within_of}
 use Rattle.record_limits.proofs.OfKind.{rest_kind}
-use Rattle.record_starting.specs.Starting.{fresh_of, zeros_of, started_of, replied_of, start_of}
+use Rattle.record_starting.specs.Starting.{fresh_of, started_of, replied_of, state_of, start_of}
 
 -- a sheet that passes gives a fresh record within its limits
 module _ (s : List ℕ) (e : passes_of s ≡ true) where
@@ -34,7 +31,7 @@ module _ (s : List ℕ) (e : passes_of s ≡ true) where
 
   fresh_motion : motion_within s (fresh_of s).state.drive (fresh_of s).state.memory.wait (fresh_of s).state.latch ≡ true
   unfolding motion_within fresh_of ticks_of
-  fresh_motion = rw (rest_kind s NoFault refl, le-leb 0 (slot s t8) (omega arith))
+  fresh_motion = rw (rest_kind s None refl, le-leb 0 (slot s t8) (omega arith))
 
   fresh_press : press_within (fresh_of s).state.latch.fault (fresh_of s).state.memory.remembered ≡ true
   unfolding press_within fresh_of
@@ -44,41 +41,44 @@ module _ (s : List ℕ) (e : passes_of s ≡ true) where
   unfolding within_of fresh_of
   fresh_within = rw (e, fresh_motion, fresh_press, fresh_counts)
 
--- the answer by its number
-taken_number : (a : Answer) → is_taken a ≡ eqb (number_of a) 0
-taken_number Taken = refl
-taken_number WrongLength = refl
-taken_number (OutOfRange i) = refl
-taken_number (TapOrder i) = refl
-taken_number CountedTap = refl
+-- what is replied of a checked sheet is what the paper's table returns
+reply_lem : (c : Result (List ℕ) Refusal) → replied_of (started_of c) ≡ state_of (reply_of c)
+unfolding choose
+reply_lem (Ok s) = refl
+reply_lem (Err WrongLength) = refl
+reply_lem (Err (OutOfRange i)) = refl
+reply_lem (Err (TapOrder i)) = refl
+reply_lem (Err CountedTap) = refl
 
-module _ (a : Answer) (s : List ℕ) {b : Bool} {r : Regulator} (t : b ≡ is_taken a) where
-  pub start_fresh : b ≡ true → r ≡ fresh_of s → ◌≡◌ {A = Started} (record { answer = a; state = r }) (started_of a s)
-  unfolding started_of
-  start_fresh y e = ap (λ (q : Regulator). record { answer = a; state = q }) (yes _ _ _ _ (sym t ∙ y) e)
+ok_lem : (c : Result (List ℕ) Refusal) → is_ok (started_of c) ≡ is_ok c
+ok_lem (Ok s) = refl
+ok_lem (Err e) = refl
 
-  pub start_zeros : b ≡ false → r ≡ zeros_of → ◌≡◌ {A = Started} (record { answer = a; state = r }) (started_of a s)
-  unfolding started_of
-  start_zeros n e = ap (λ (q : Regulator). record { answer = a; state = q }) (no _ _ _ _ (sym t ∙ n) e)
+lasting_lem : (list : List ℕ) (a : Result (Unit {0}) Refusal) → answer_of list ≡ a → IfOk (started_of (sheet_with a list)) (λ r. within_of r ≡ true)
+lasting_lem list (Ok u) e = fresh_within list (taken_pass list e)
+lasting_lem list (Err r) e = tt
 
--- a checked sheet's start
-module _ (list : List ℕ) (c : Sheet) {r : Started} (e : r ≡ started_of c.answer c.settings) where
-  same_answer : r.answer ≡ c.answer
-  unfolding started_of
-  same_answer = ap (λ (q : Started). q.answer) e
+-- what `start` answers, by what the check answers
+module _ (c : Result (List ℕ) Refusal) where
+  pub start_taken : (s : List ℕ) (r : Regulator) → c ≡ Ok s → r ≡ fresh_of s → Ok r ≡ started_of c
+  start_taken s r p q = rw (p, q)
 
-  pub start_reply : reply_of c ≡ returned_of list → replied_of r ≡ start_of list
-  unfolding started_of start_of
-  start_reply h = rw (← h, e, taken_number c.answer)
+  pub start_refused : (e : Refusal) (r : Result Regulator Refusal) → c ≡ Err e → r ≡ Err e → r ≡ started_of c
+  start_refused e r p q = rw (p, q)
 
-  pub start_exactly : (c.answer ≡ Taken) ↔ Settings list → (r.answer ≡ Taken) ↔ Settings list
-  start_exactly h = ((λ p. h.0 (sym same_answer ∙ p)), (λ p. same_answer ∙ h.1 p))
+-- all that it promises
+module _ (list : List ℕ) (c : Result (List ℕ) Refusal) {r : Result Regulator Refusal} (e : r ≡ started_of c) where
+  start_reply : reply_of c ≡ returned_of list → replied_of r ≡ start_of list
+  unfolding start_of
+  start_reply h = rw e (reply_lem c) ∙ ap state_of h
 
-  pub start_lasting : c ≡ sheet_of list → r.answer ≡ Taken → within_of r.state ≡ true
-  unfolding started_of sheet_of sheet_with
-  start_lasting h p =
-      let t : c.answer ≡ Taken = sym same_answer ∙ p in
-      let a : answer_of list ≡ Taken = sym (ap (λ (q : Sheet). q.answer) h) ∙ t in
-      let k : c.settings ≡ list = ap (λ (q : Sheet). q.settings) h ∙ sym (yes _ _ _ _ (ap is_taken a) refl) in
-      let f : fresh_of list ≡ r.state = ap fresh_of (sym k) ∙ yes _ _ _ _ (ap is_taken t) refl ∙ sym (ap (λ (q : Started). q.state) e) in
-      subst (λ (q : Regulator). within_of q ≡ true) f (fresh_within list (taken_pass list a))
+  start_exactly : IsOk c ↔ Settings list → IsOk r ↔ Settings list
+  start_exactly h = ((λ p. h.0 (sym (ok_lem c) ∙ ap is_ok (sym e) ∙ p)), (λ t. ap is_ok e ∙ ok_lem c ∙ h.1 t))
+
+  start_lasting : c ≡ sheet_of list → IfOk r (λ q. within_of q ≡ true)
+  unfolding sheet_of
+  start_lasting h = rw (e, h) (lasting_lem list (answer_of list) refl)
+
+  pub started : c ≡ sheet_of list → reply_of c ≡ returned_of list → IsOk c ↔ Settings list
+      → (replied_of r ≡ start_of list) × ((IsOk r ↔ Settings list) × IfOk r (λ q. within_of q ≡ true))
+  started h p x = (start_reply p, (start_exactly x, start_lasting h))

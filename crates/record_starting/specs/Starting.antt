@@ -1,19 +1,15 @@
 -- The record that a sheet gives (01, 'The setting sheet' and rule 1; 02, ticket 7). Definitions only.
-use Rattle.std.specs.Prelude.{ℕ, Bool, true, false, List, eqb, replicate}
+use Rattle.std.specs.Prelude.{ℕ, Bool, true, false, List, eqb, replicate, Result, Ok, Err, None}
 use Rattle.common.specs.Choice.{choose}
 use Rattle.slots.specs.Slots.{slot, slots, n_pos, n_start}
-use Rattle.sheet.specs.declared.Answer.{Answer}
-use Rattle.sheet.specs.Sheet.{number_of, slot_of, is_taken, Reply, returned_of}
+use Rattle.sheet.specs.declared.Refusal.{Refusal}
+use Rattle.sheet.specs.Sheet.{number_of, slot_of, Reply, returned_of}
 use Rattle.organ.specs.Runs.{cleared}
 use Rattle.drive.specs.declared.Drive.TheVariants.{Resting}
-use Rattle.fault.specs.declared.Fault.TheVariants.{NoFault}
-use Rattle.ways.specs.declared.Way.TheVariants.{Neither}
-use Rattle.command.specs.declared.Wait.TheVariants.{Idle}
 use Rattle.keys.specs.declared.Keys.{Keys}
 use Rattle.record.specs.declared.Regulator.{Regulator}
 use Rattle.record.specs.declared.State.{State}
 use Rattle.record.specs.Whole.{regulator_of}
-use Rattle.record_starting.specs.declared.Started.{Started}
 
 -- local mode, and all four buttons pressed or none
 abbrev pub local_keys : Bool → Keys
@@ -26,9 +22,9 @@ idle_of tap operations pressed =
     record {
       organs = replicate 7 cleared;
       drive = Resting;
-      latch = record { fault = NoFault; age = 0 };
-      memory = record { wait = Idle; repeat = Neither; keys = local_keys pressed; remembered = Neither };
-      wear = record { last = Neither; operations = operations; counted_tap = tap };
+      latch = record { fault = None; age = 0 };
+      memory = record { wait = None; repeat = None; keys = local_keys pressed; remembered = None };
+      wear = record { last = None; operations = operations; counted_tap = tap };
     }
 
 -- "fresh: at rest, no organ marked, nothing latched or waiting, no last direction or automatic command, counted tap N_pos, operations
@@ -45,8 +41,14 @@ unfoldable pub zeros_of : Regulator
 zeros_of = regulator_of (replicate slots 0) (idle_of 0 0 false)
 
 -- "a list that passes gives the fresh record, which carries it"
-unfoldable pub started_of : Answer → List ℕ → Started
-started_of a s = record { answer = a; state = choose (is_taken a) (fresh_of s) zeros_of }
+abbrev pub started_of : Result (List ℕ) Refusal → Result Regulator Refusal
+started_of (Ok s) = Ok (fresh_of s)
+started_of (Err e) = Err e
+
+-- the record, of zeros where the list is refused
+abbrev pub record_of : Result Regulator Refusal → Regulator
+record_of (Ok r) = r
+record_of (Err e) = zeros_of
 
 -- what is returned, in the paper's numbers
 pub record Start : Type 0 where
@@ -55,8 +57,8 @@ pub record Start : Type 0 where
   pub state : Regulator
 
 -- an answer by its number and slot, with its record
-abbrev pub replied_of : Started → Start
-replied_of r = record { number = number_of r.answer; slot = slot_of r.answer; state = r.state }
+abbrev pub replied_of : Result Regulator Refusal → Start
+replied_of r = record { number = number_of r; slot = slot_of r; state = record_of r }
 
 -- the paper's table of refusals, with the record that each row returns
 abbrev pub state_of : Reply → Start

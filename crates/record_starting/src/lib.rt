@@ -1,28 +1,20 @@
 // The record that a setting sheet gives: the fresh one, or one of zeros where the sheet is refused.
 #![tactic(auto)]
 
-ghost use Rattle.std.specs.Prelude.{◌≡◌, true, ◌↔◌};
+ghost use Rattle.std.specs.Prelude.{◌≡◌, true, ◌↔◌, IsOk, IfOk};
 ghost use Rattle.sheet.specs.Settings.{Settings};
-ghost use Rattle.record_starting.specs.Starting.{local_keys, idle_of, fresh_state, fresh_of, zeros_of, started_of, replied_of, start_of};
+ghost use Rattle.record_starting.specs.Starting.{local_keys, idle_of, fresh_state, fresh_of, zeros_of, record_of, replied_of, start_of};
 ghost use Rattle.record_limits.specs.Limits.{within_of};
 
 use acting_accounting::Wear;
-use command::{Memory, Wait};
+use command::Memory;
 use drive::Drive;
-use fault::{Fault, Latch};
+use fault::Latch;
 use keys::{Buttons, Keys};
 use organ::Organ;
 use record::{Regulator, State};
-use sheet::Answer;
+use sheet::Refusal;
 use slots::{N_POS, N_START, SLOTS};
-use ways::Way;
-
-// The answer to a sheet, and the record that it gives.
-#[derive(Clone, Copy)]
-pub struct Started {
-    pub answer: Answer,
-    pub state: Regulator,
-}
 
 // Local mode, and all four buttons pressed or none.
 fn local_keys(pressed: bool) -> Keys
@@ -47,25 +39,23 @@ fn idle(counted_tap: u32, operations: u32, pressed: bool) -> State
         marked: false,
         count: 0,
     };
-    let organs = [cleared; 7];
-    let keys = local_keys(pressed);
     State {
-        organs: organs,
+        organs: [cleared; 7],
         drive: Drive::Resting,
         latch: Latch {
-            fault: Fault::NoFault,
+            fault: None,
             age: 0,
         },
         memory: Memory {
-            wait: Wait::Idle,
-            repeat: Way::Neither,
-            keys: keys,
-            remembered: Way::Neither,
+            wait: None,
+            repeat: None,
+            keys: local_keys(pressed),
+            remembered: None,
         },
         wear: Wear {
-            last: Way::Neither,
-            operations: operations,
-            counted_tap: counted_tap,
+            last: None,
+            operations,
+            counted_tap,
         },
     }
 }
@@ -79,55 +69,41 @@ pub fn fresh_state(s: &[u32; SLOTS]) -> State
 }
 
 // The fresh record of a sheet.
+#[tactic(auto, unfolding(crate::specs::Starting::fresh_of))]
 pub fn fresh(settings: [u32; SLOTS]) -> Regulator
     ensures { result ≡ fresh_of settings }
 {
     let state = fresh_state(&settings);
-    Regulator {
-        settings: settings,
-        state: state,
-    }
+    Regulator { settings, state }
 }
 
 // The record of zeros that a refused sheet gives.
+#[tactic(auto, unfolding(crate::specs::Starting::zeros_of))]
 pub fn zeros() -> Regulator
     ensures { result ≡ zeros_of }
 {
-    let settings = [0u32; SLOTS];
-    let state = idle(0, 0, false);
     Regulator {
-        settings: settings,
-        state: state,
+        settings: [0; SLOTS],
+        state: idle(0, 0, false),
     }
 }
 
-// The record of a checked sheet.
-fn start_with(answer: Answer, settings: [u32; SLOTS]) -> Started
-    ensures { result ≡ started_of answer settings }
-{
-    if sheet::taken(answer) {
-        let state = fresh(settings);
-        Started {
-            answer: answer,
-            state: state,
-        }
-    } else {
-        let state = zeros();
-        Started {
-            answer: answer,
-            state: state,
-        }
-    }
-}
-
-// The reply to a list of any length; the list is left as it was. A list that is taken gives a record within its limits.
-pub fn start(list: &[u32]) -> Started
+// The record of a list of any length, within its limits, or why the list is refused; the list is left as it was.
+pub fn start(list: &[u32]) -> Result<Regulator, Refusal>
     ensures reply { replied_of result ≡ start_of list.now }
-    ensures exactly { (result.answer ≡ Answer.Taken) ↔ Settings list.now }
-    ensures lasting { result.answer ≡ Answer.Taken → within_of result.state ≡ true }
+    ensures exactly { IsOk result ↔ Settings list.now }
+    ensures lasting { IfOk result (λ r. within_of r ≡ true) }
 {
-    let checked = sheet_judging::check_sheet(list);
-    let answer = checked.answer;
-    let settings = checked.settings;
-    start_with(answer, settings)
+    let settings = sheet_judging::check_sheet(list)?;
+    Ok(fresh(settings))
+}
+
+// The record of an answer, of zeros where the list is refused.
+pub fn record_of(answer: Result<Regulator, Refusal>) -> Regulator
+    ensures { result ≡ record_of answer }
+{
+    match answer {
+        Ok(record) => record,
+        Err(_) => zeros(),
+    }
 }

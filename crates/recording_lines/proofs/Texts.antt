@@ -4,16 +4,18 @@ use mathlib.Core.Path.{◌≡◌, refl, sym, ◌∙◌, ap}
 use mathlib.Core.Bool.{true, false}
 use mathlib.Core.List.{List, [], ◌∷◌, ◌++◌, append_assoc}
 use Prim.Native.Nat.{ℕ, zero, suc, ◌+◌, ◌-◌, ◌*◌, ◌/◌, ◌%◌, ◌^◌, ◌<◌, ◌≤◌}
-use native.Mathlib.Nat.{add-suc, suc-add, add-zero, pow-suc}
+use native.Mathlib.Nat.{pow-suc}
 use native.Mathlib.Numerals.{add-one}
 use native.Mathlib.Omega.{arith}
 use borrow.Author.Tests.{lt-ltb, le-ltb, le-leb, lt-leb}
 use lib.Dec.{ltb, leb}
-use lib.ListN.{length, get_or, set, drop, length-append, drop_of_length-le}
-use lib.Seq.{sets, length-sets, sets-eq, drop-cons}
+use lib.ListN.{length, get_or, drop, length-append, drop_of_length-le}
+use lib.Seq.{sets, sets-eq, drop-cons}
 use Rattle.common.specs.Choice.{choose}
+use Rattle.common.specs.Written.{Written}
 use Rattle.common.proofs.Cases.{yes, no, chosen}
-use Rattle.recording_lines.specs.Lines.{most_digits, widest, digits_of, decimal_of, mark_of, line_of, Written, written_of, end_of}
+use Rattle.common.proofs.Written.{sets-append, both_written, written_length}
+use Rattle.recording_lines.specs.Lines.{most_digits, widest, digits_of, decimal_of, mark_of, line_of, written_of, end_of}
 
 -- what stands after a number
 module _ (ns : List ℕ) (i : ℕ) where
@@ -24,19 +26,6 @@ module _ (ns : List ℕ) (i : ℕ) where
   mark_end h = rw (drop_of_length-le ns h)
 
 pub ruleset marks = (mark_blank, mark_end)
-
--- one text after the other
-sets-append : (l : List ℕ) (i : ℕ) (s t : List ℕ) → sets l i (s ++ t) ≡ sets (sets l i s) (i + length s) t
-sets-append l i [] t = rw add-zero
-sets-append l i (a ∷ s) t = rw add-suc (sets-append (set l i a) (suc i) s t ∙ rw suc-add)
-
-module _ {old mid new : List ℕ} {at e r : ℕ} {s t : List ℕ} where
-  pub both_written : Written old at s mid e → Written mid e t new r → Written old at (s ++ t) new r
-  both_written p q =
-      record {
-        bytes = q.bytes ∙ ap (λ (l : List ℕ). sets l e t) p.bytes ∙ ap (λ (i : ℕ). sets (sets old at s) i t) p.past ∙ sym (sets-append old at s t);
-        past = simp length-append (omega (arith, p.past, q.past));
-      }
 
 -- the digits of a number that has at most k + 1 of them are the same with more allowed
 enough : (k n : ℕ) → n < 10 ^ suc k → digits_of (suc (suc k)) n ≡ digits_of (suc k) n
@@ -71,9 +60,6 @@ at_most (suc k) n =
 pub most_digits_lem : (n : ℕ) → length (decimal_of n) ≤ most_digits
 unfolding decimal_of
 most_digits_lem n = at_most most_digits n
-
-pub written_length : {old new text : List ℕ} {at r : ℕ} → Written old at text new r → length new ≡ length old
-written_length {old} {new} {text} {at} p = ap length p.bytes ∙ length-sets old at text
 
 -- a number's digits: the last one, and before it those of a tenth of the number
 module _ {old new : List ℕ} {at r n : ℕ} where

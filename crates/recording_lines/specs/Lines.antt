@@ -1,6 +1,5 @@
 -- A line of numbers as text. Definitions only.
-use Rattle.std.specs.Prelude.{ℕ, zero, suc, ◌+◌, ◌*◌, ◌/◌, ◌%◌, ◌≡◌, Bool, List, [], ◌∷◌, ◌++◌, ltb, leb, length, take, drop}
-use Rattle.std.proofs.lemmas.List.Edits.{sets}
+use Rattle.std.specs.Prelude.{ℕ, zero, suc, ◌+◌, ◌*◌, ◌/◌, ◌%◌, Bool, List, [], ◌∷◌, ◌++◌, ltb, leb, length, take, drop}
 use Rattle.common.specs.Choice.{choose}
 
 -- the most digits of a 32-bit number
@@ -29,11 +28,6 @@ mark_of (n ∷ ns) = 32
 unfoldable pub line_of : List ℕ → List ℕ
 line_of [] = []
 line_of (n ∷ ns) = decimal_of n ++ (mark_of ns ∷ line_of ns)
-
--- the text is written from a place on, the other bytes are as they were, and the end is past it
-pub record Written (old : List ℕ) (at : ℕ) (text new : List ℕ) (end : ℕ) : Type 0 where
-  pub bytes : new ≡ sets old at text
-  pub past : end ≡ at + length text
 
 -- whether there is room for as many numbers of the greatest width
 abbrev pub has_room : List ℕ → List ℕ → ℕ → Bool

@@ -2,7 +2,8 @@
 #![tactic(auto)]
 
 ghost use Rattle.std.specs.Prelude.{◌≡◌, ◌+◌, ◌*◌, ◌≤◌, ◌<◌, [], ◌∷◌, length, drop};
-ghost use Rattle.recording_lines.specs.Lines.{widest, decimal_of, mark_of, line_of, written_of, end_of, Written};
+ghost use Rattle.common.specs.Written.{Written};
+ghost use Rattle.recording_lines.specs.Lines.{widest, decimal_of, mark_of, line_of, written_of, end_of};
 
 // The most digits of a number.
 const DIGITS: usize = 10;
@@ -24,13 +25,14 @@ fn put_number(n: u32, out: &mut [u8], at: usize) -> usize
     ensures { Written out.old at (decimal_of n) out.new result }
 {
     if n < 10 {
-        return put(48 + n as u8, out, at);
+        return put(b'0' + n as u8, out, at);
     }
     let end = put_number(n / 10, out, at);
-    put(48 + (n % 10) as u8, out, end)
+    put(b'0' + (n % 10) as u8, out, end)
 }
 
 // What stands after the ith number: a blank, or the line's end after the last.
+#[tactic(auto, using(crate::proofs::Texts::marks))]
 fn mark_after(numbers: &[u32], i: usize) -> u8
     requires { i < length numbers.now }
     ensures { result ≡ mark_of (drop (i + 1) numbers.now) }
@@ -43,12 +45,9 @@ fn put_numbers(numbers: &[u32], out: &mut [u8], at: usize) -> usize
     ensures { Written out.old at (line_of numbers.now) out.new result }
 {
     let mut end = at;
-    let mut i: usize = 0;
-    while i < numbers.len() {
-        let after = mark_after(numbers, i);
-        end = put_number(numbers[i], out, end);
-        end = put(after, out, end);
-        i += 1;
+    for (i, &n) in numbers.iter().enumerate() {
+        end = put_number(n, out, end);
+        end = put(mark_after(numbers, i), out, end);
     }
     end
 }
@@ -60,10 +59,7 @@ pub fn write_line(numbers: &[u32], out: &mut [u8], at: usize) -> usize
     ensures end { result ≡ end_of numbers.now out.old at }
     ensures within { at ≤ length out.old → result ≤ length out.new }
 {
-    if out.len() < at {
-        return at;
-    }
-    if (out.len() - at) / WIDEST < numbers.len() {
+    if out.len() < at || (out.len() - at) / WIDEST < numbers.len() {
         return at;
     }
     put_numbers(numbers, out, at)

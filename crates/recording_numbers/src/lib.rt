@@ -9,7 +9,7 @@ ghost use Rattle.recording_numbers.specs.Numbers.{number_bytes, number_at, float
 // Bytes of a number.
 pub const NUMBER: usize = 4;
 
-// A byte as a number.
+// A byte as a number, with its bound, which callers go by.
 pub fn wide(x: u8) -> u32
     ensures { (result ≡ x) × (result < 256) }
 {
@@ -17,15 +17,12 @@ pub fn wide(x: u8) -> u32
 }
 
 // The number of the four bytes from `at` on.
+#[tactic(auto, unfolding(crate::specs::Numbers::number_at))]
 pub fn number_at(bytes: &[u8], at: usize) -> u32
     requires { at + number_bytes ≤ length bytes.now }
     ensures { result ≡ number_at bytes.now at }
 {
-    let a = wide(bytes[at]);
-    let b = wide(bytes[at + 1]);
-    let c = wide(bytes[at + 2]);
-    let d = wide(bytes[at + 3]);
-    a + 0x100 * b + 0x1_0000 * c + 0x100_0000 * d
+    u32::from_le_bytes([bytes[at], bytes[at + 1], bytes[at + 2], bytes[at + 3]])
 }
 
 // The pattern's float. A NaN is made by arithmetic, since `from_bits` is not defined at a NaN's pattern.
@@ -40,6 +37,7 @@ pub fn float_of(bits: u32) -> f32
 }
 
 // The float of the four bytes from `at` on.
+#[tactic(auto, unfolding(crate::specs::Numbers::float_at))]
 pub fn float_at(bytes: &[u8], at: usize) -> f32
     requires { at + number_bytes ≤ length bytes.now }
     ensures { result ≡ float_at bytes.now at }

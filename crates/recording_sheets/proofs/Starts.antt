@@ -12,11 +12,12 @@ use Rattle.common.specs.Choice.{choose}
 use Rattle.common.proofs.Cases.{yes, no}
 use Rattle.common.proofs.Fill.{filled, none_filled, fill_more, all_filled}
 use Rattle.sheet.specs.Sheet.{number_of, returned_of}
-use Rattle.record_starting.specs.declared.Started.{Started}
+use Rattle.std.specs.Prelude.{Option, Some, None, Result}
+use Rattle.sheet.specs.declared.Refusal.{Refusal}
+use Rattle.record.specs.declared.Regulator.{Regulator}
 use Rattle.record_starting.specs.Starting.{Start, replied_of, start_of}
 use Rattle.recording_numbers.specs.Numbers.{number_bytes, number_at}
 use Rattle.recording_sheets.specs.SheetFile.{sheet_bytes, number_in, numbers_of, is_whole, sheet_file_of, list_of}
-use Rattle.recording_sheets.specs.declared.SheetNumbers.{SheetNumbers}
 
 module _ (s : List ℕ) where
   -- the numbers before the ith are there
@@ -36,39 +37,35 @@ module _ (s : List ℕ) where
       let e : i ≡ slots = omega arith in
       inv ∙ rw e (all_filled (number_in s) (replicate slots 0) slots refl)
 
-  pub not_whole : (length s ≡ sheet_bytes → ⊥) → ◌≡◌ {A = SheetNumbers} (record { whole = false; numbers = replicate slots 0 }) (sheet_file_of s)
+  pub not_whole : (length s ≡ sheet_bytes → ⊥) → None ≡ sheet_file_of s
   unfolding sheet_file_of
   not_whole h = no _ _ _ _ (ne_eqb _ _ h) refl
 
-  pub whole : {list : List ℕ} → length s ≡ sheet_bytes → list ≡ numbers_of s → ◌≡◌ {A = SheetNumbers} (record { whole = true; numbers = list }) (sheet_file_of s)
+  pub whole : {list : List ℕ} → length s ≡ sheet_bytes → list ≡ numbers_of s → Some list ≡ sheet_file_of s
   unfolding sheet_file_of
   whole h e = rw e (yes _ _ _ _ (eq-eqb _ _ h) refl)
 
 -- the list that is checked is the file's numbers, or has none
-as_read : (b : Bool) (f : SheetNumbers) (ns zs : List ℕ)
-    → f ≡ choose b (record { whole = true; numbers = ns }) (record { whole = false; numbers = zs })
-    → f.whole ≡ true → f.numbers ≡ choose b ns []
+as_read : (b : Bool) (f : Option (List ℕ)) (ns list : List ℕ) → f ≡ choose b (Some ns) None → f ≡ Some list → list ≡ choose b ns []
 unfolding choose
-as_read true f ns zs e p = cc
-as_read false f ns zs e p = let z : ◌≡◌ {A = Bool} true false = sym p ∙ ap (λ (x : SheetNumbers). x.whole) e in cc
+as_read true f ns list e p = cc
+as_read false f ns list e p = cc
 
-as_none : (b : Bool) (f : SheetNumbers) (ns zs : List ℕ)
-    → f ≡ choose b (record { whole = true; numbers = ns }) (record { whole = false; numbers = zs })
-    → f.whole ≡ false → [] ≡ choose b ns []
+as_none : (b : Bool) (f : Option (List ℕ)) (ns : List ℕ) → f ≡ choose b (Some ns) None → f ≡ None → [] ≡ choose b ns []
 unfolding choose
-as_none true f ns zs e p = let z : ◌≡◌ {A = Bool} true false = sym (ap (λ (x : SheetNumbers). x.whole) e) ∙ p in cc
-as_none false f ns zs e p = refl
+as_none true f ns e p = cc
+as_none false f ns e p = refl
 
-module _ (s : List ℕ) {f : SheetNumbers} (e : f ≡ sheet_file_of s) {x : Start} where
-  pub start_whole : f.whole ≡ true → x ≡ start_of f.numbers → x ≡ start_of (list_of s)
+module _ (s : List ℕ) {f : Option (List ℕ)} (e : f ≡ sheet_file_of s) {x : Start} where
+  pub start_whole : {list : List ℕ} → f ≡ Some list → x ≡ start_of list → x ≡ start_of (list_of s)
   unfolding sheet_file_of list_of
-  start_whole p q = q ∙ ap start_of (as_read (is_whole s) f (numbers_of s) (replicate slots 0) e p)
+  start_whole p q = q ∙ ap start_of (as_read (is_whole s) f (numbers_of s) _ e p)
 
-  pub start_other : f.whole ≡ false → x ≡ start_of [] → x ≡ start_of (list_of s)
+  pub start_other : f ≡ None → x ≡ start_of [] → x ≡ start_of (list_of s)
   unfolding sheet_file_of list_of
-  start_other p q = q ∙ ap start_of (as_none (is_whole s) f (numbers_of s) (replicate slots 0) e p)
+  start_other p q = q ∙ ap start_of (as_none (is_whole s) f (numbers_of s) e p)
 
 -- a file of another length is refused with 1
-pub refused : (s : List ℕ) (r : Started) → replied_of r ≡ start_of (list_of s) → (replied_of r ≡ start_of (list_of s)) × ((length s ≡ sheet_bytes → ⊥) → number_of r.answer ≡ 1)
+pub refused : (s : List ℕ) (r : Result Regulator Refusal) → replied_of r ≡ start_of (list_of s) → (replied_of r ≡ start_of (list_of s)) × ((length s ≡ sheet_bytes → ⊥) → number_of r ≡ 1)
 unfolding list_of start_of returned_of choose
 refused s r e = (e, λ h. ap (λ (x : Start). x.number) (e ∙ ap start_of (sym (no _ _ _ _ (ne_eqb _ _ h) refl))))

@@ -1,10 +1,9 @@
 -- A sheet's file, by its bytes. Definitions only.
-use Rattle.std.specs.Prelude.{ℕ, ◌*◌, Bool, true, false, List, [], eqb, length, replicate}
+use Rattle.std.specs.Prelude.{ℕ, ◌*◌, Bool, List, [], eqb, length, Option, Some, None}
 use Rattle.common.specs.Choice.{choose}
 use Rattle.common.specs.Places.{tab}
 use Rattle.slots.specs.Slots.{slots}
 use Rattle.recording_numbers.specs.Numbers.{number_bytes, number_at}
-use Rattle.recording_sheets.specs.declared.SheetNumbers.{SheetNumbers}
 
 -- bytes of a sheet's file: "4 × the sheet's length"
 abbrev pub sheet_bytes : ℕ
@@ -21,9 +20,9 @@ numbers_of s = tab (number_in s) slots
 abbrev pub is_whole : List ℕ → Bool
 is_whole s = eqb (length s) sheet_bytes
 
--- the numbers, or zeros
-unfoldable pub sheet_file_of : List ℕ → SheetNumbers
-sheet_file_of s = choose (is_whole s) (record { whole = true; numbers = numbers_of s }) (record { whole = false; numbers = replicate slots 0 })
+-- the numbers, where it is
+unfoldable pub sheet_file_of : List ℕ → Option (List ℕ)
+sheet_file_of s = choose (is_whole s) (Some (numbers_of s)) None
 
 -- the list that is checked: "a file whose length is not 4 × the sheet's length is refused with 1", as a list of another length than the sheet's is
 unfoldable pub list_of : List ℕ → List ℕ

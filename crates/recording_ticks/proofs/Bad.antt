@@ -2,12 +2,14 @@
 -- Assumes nothing.
 use mathlib.Core.Path.{◌≡◌, refl, ◌∙◌, sym}
 use mathlib.Core.List.{List}
-use Prim.Native.Nat.{ℕ, suc, ◌+◌, ◌-◌, ◌*◌, ◌<◌, ◌≤◌}
+use Prim.Native.Nat.{ℕ, zero, suc, ◌+◌, ◌-◌, ◌*◌, ◌<◌, ◌≤◌}
 use native.Mathlib.Numerals.{add-one}
 use native.Mathlib.Omega.{arith}
 use borrow.Author.Tests.{lt-ltb, le-ltb}
+use lib.Dec.{ltb}
 use lib.ListN.{get_or}
-use Rattle.common.proofs.Cases.{yes, no}
+use Rattle.std.specs.Prelude.{Option, None, Some, IfSome}
+use Rattle.common.proofs.Cases.{yes, no, chosen}
 use Rattle.recording_ticks.specs.Recorded.{readings, invalid, reading_bytes, contacts_at, bad_from, bad_place}
 
 -- the first place is the first from the ith reading on
@@ -28,13 +30,22 @@ module _ (s : List ℕ) (at : ℕ) {i : ℕ} (inv : From s at i) where
     unfolding bad_from
     bad_on e = inv ∙ rw (next, add-one i) (sym (no _ _ _ _ (le-ltb _ _ e) refl))
 
-    pub bad_here : invalid < get_or s (at + reading_bytes * i) 0 → reading_bytes * i ≡ bad_place s at
+    pub bad_here : invalid < get_or s (at + reading_bytes * i) 0 → Some (reading_bytes * i) ≡ bad_place s at
     unfolding bad_from
     bad_here e = sym (inv ∙ rw next (sym (yes _ _ _ _ (lt-ltb _ _ e) refl)))
 
   -- no reading is left
-  pub bad_past : i ≤ readings → readings ≤ i → contacts_at ≡ bad_place s at
+  pub bad_past : i ≡ readings → None ≡ bad_place s at
   unfolding bad_from
-  bad_past h l =
-      let e : i ≡ readings = omega arith in
-      sym (inv ∙ rw e)
+  bad_past e = sym (inv ∙ rw e refl)
+
+-- a bad byte is one of the readings'
+pub bad_within : (s : List ℕ) (at n i : ℕ) → i + n ≤ readings → IfSome (bad_from s at n i) (λ (p : ℕ). p < contacts_at)
+unfolding bad_from
+bad_within s at zero i h = tt
+bad_within s at (suc n) i h =
+    chosen (λ (o : Option ℕ). IfSome o (λ (p : ℕ). p < contacts_at)) (ltb invalid (get_or s (at + reading_bytes * i) 0)) (Some (reading_bytes * i)) (bad_from s at n (suc i))
+    (λ _. omega arith)
+    (λ _. bad_within s at n (suc i) (omega arith))
+
+pub ruleset turns = (from_start, bad_on, bad_here, bad_past, bad_within)

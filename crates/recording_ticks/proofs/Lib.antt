@@ -1,3 +1,3 @@
-mod Bad
+pub mod Bad
 pub mod Made
 pub mod Parts

@@ -5,17 +5,18 @@ use mathlib.Core.Bool.{true}
 use mathlib.Core.List.{List}
 use Prim.Native.Nat.{ℕ, ◌+◌, ◌-◌, ◌<◌, ◌≤◌}
 use native.Mathlib.Omega.{arith}
-use borrow.Author.Tests.{lt-ltb, le-ltb, le-leb, lt-leb}
+use borrow.Author.Tests.{le-leb, lt-leb}
 use lib.Dec.{leb}
 use lib.ListN.{length, get_or}
+use Rattle.std.specs.Prelude.{None, Some, Ok, Err}
 use Rattle.common.proofs.Cases.{yes, no}
 use Rattle.measure.specs.declared.Reading.{Reading}
 use Rattle.phasor.specs.declared.Phasor.{Phasor}
 use Rattle.phasor.specs.declared.Phasors.{Phasors}
 use Rattle.input.specs.declared.Input.{Input}
 use Rattle.recording_numbers.specs.Numbers.{number_at}
-use Rattle.recording_ticks.specs.Recorded.{contacts_at, bcd_at, sensor_at, tick_bytes, nth_reading, phasor_at, phasors_at, input_at, bad_place, decoded_of}
-use Rattle.recording_ticks.specs.declared.Decoded.TheVariants.{Tick, BadQuality, CutShort}
+use Rattle.recording_ticks.specs.Recorded.{contacts_at, bcd_at, sensor_at, tick_bytes, nth_reading, phasor_at, phasors_at, input_at, bad_place, tick_but_for, decoded_of}
+use Rattle.recording_ticks.specs.declared.DecodeError.TheVariants.{BadQuality, CutShort}
 
 module _ (s : List ℕ) (at : ℕ) where
   pub pair_made : (i : ℕ) {a b : Reading} → a ≡ nth_reading s at i → b ≡ nth_reading s at (i + 1)
@@ -44,18 +45,20 @@ module _ (s : List ℕ) (at : ℕ) where
   input_made pa pb pc pd pe pf pv pn = rw (pa, pb, pc, pd, pe, pf, pv, pn)
 
   -- too few bytes
-  pub cut_short : length s < at + tick_bytes → CutShort ≡ decoded_of s at
+  pub cut_short : length s < at + tick_bytes → Err CutShort ≡ decoded_of s at
   unfolding decoded_of
   cut_short h = no _ _ _ _ (lt-leb _ _ h) refl
 
-  module _ {p : ℕ} (e : p ≡ bad_place s at) (l : at ≤ length s) (h : tick_bytes ≤ length s - at) where
+  module _ (l : at ≤ length s) (h : tick_bytes ≤ length s - at) where
     whole : leb (at + tick_bytes) (length s) ≡ true
     whole = le-leb (at + tick_bytes) (length s) (omega arith)
 
-    pub bad_quality : p < contacts_at → BadQuality p (get_or s (at + p) 0) ≡ decoded_of s at
-    unfolding decoded_of
-    bad_quality q = rw (← e) (yes _ _ _ _ whole (yes _ _ _ _ (lt-ltb _ _ q) refl))
+    pub bad_quality : {p : ℕ} → Some p ≡ bad_place s at → Err (BadQuality p (get_or s (at + p) 0)) ≡ decoded_of s at
+    unfolding decoded_of tick_but_for
+    bad_quality e = rw (← e) (yes _ _ _ _ whole refl)
 
-    pub a_tick : {i : Input} → contacts_at ≤ p → i ≡ input_at s at → Tick i ≡ decoded_of s at
-    unfolding decoded_of
-    a_tick q j = rw (← e, ← j) (yes _ _ _ _ whole (no _ _ _ _ (le-ltb _ _ q) refl))
+    pub a_tick : {i : Input} → None ≡ bad_place s at → i ≡ input_at s at → Ok i ≡ decoded_of s at
+    unfolding decoded_of tick_but_for
+    a_tick e j = rw (← e, ← j) (yes _ _ _ _ whole refl)
+
+pub ruleset decoded = (cut_short, bad_quality, a_tick)

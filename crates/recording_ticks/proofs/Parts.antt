@@ -6,23 +6,18 @@ use mathlib.Core.List.{List, ◌++◌}
 use Prim.Native.Nat.{ℕ, zero, suc, ◌+◌, ◌*◌, ◌<◌, ◌≤◌}
 use native.Mathlib.Nat.{add_assoc}
 use native.Mathlib.Omega.{arith}
-use borrow.Author.Tests.{le-leb, leb-true, leb-false, ltb-true}
-use lib.Dec.{ltb, leb}
+use borrow.Author.Tests.{le-leb, leb-true, leb-false}
+use lib.Dec.{leb}
 use lib.ListN.{length, get_or, length-append, get_or-append}
 use lib.Seq.{get_or-append-add}
-use Rattle.common.specs.Choice.{choose}
+use Rattle.std.specs.Prelude.{Option, None, Some, IfSome, Ok, Err}
 use Rattle.common.proofs.Cases.{yes}
 use Rattle.input.specs.declared.Input.{Input}
 use Rattle.recording_numbers.specs.Numbers.{number_bytes, number_at, float_at}
-use Rattle.recording_ticks.specs.Recorded.{readings, reading_bytes, contacts_at, bcd_at, sensor_at, tick_bytes, reading_at, nth_reading, phasor_at, phasors_at, input_at, bad_from, bad_place, decoded_of}
-use Rattle.recording_ticks.specs.declared.Decoded.TheVariants.{Tick, BadQuality, CutShort}
+use Rattle.recording_ticks.specs.Recorded.{readings, reading_bytes, contacts_at, bcd_at, sensor_at, tick_bytes, reading_at, nth_reading, phasor_at, phasors_at, input_at, bad_from, bad_place, tick_but_for, decoded_of}
+use Rattle.recording_ticks.specs.declared.DecodeError.TheVariants.{BadQuality, CutShort}
+use Rattle.recording_ticks.proofs.Bad.{bad_within}
 use Rattle.recording_ticks.proofs.Made.{cut_short}
-
--- the first way matters only where it is taken
-choose_alike : {A : Type 0} (b : Bool) (x x' y : A) → (b ≡ true → x ≡ x') → choose b x y ≡ choose b x' y
-unfolding choose
-choose_alike true x x' y p = p refl
-choose_alike false x x' y p = refl
 
 -- two places of two lists with the same bytes from there on, as many as a tick has
 module _ (s t : List ℕ) (a b : ℕ) (same : (k : ℕ) → k < tick_bytes → get_or s (a + k) 0 ≡ get_or t (b + k) 0) where
@@ -61,23 +56,25 @@ module _ (s t : List ℕ) (a b : ℕ) (same : (k : ℕ) → k < tick_bytes → g
   unfolding bad_place
   same_place = same_from readings 0 (omega arith)
 
-  same_byte : ltb (bad_place t b) contacts_at ≡ true → get_or s (a + bad_place t b) 0 ≡ get_or t (b + bad_place t b) 0
-  same_byte h = same (bad_place t b) (omega (arith, ltb-true (bad_place t b) contacts_at h))
+  same_but_for : (o : Option ℕ) → IfSome o (λ (p : ℕ). p < contacts_at) → tick_but_for s a o ≡ tick_but_for t b o
+  unfolding tick_but_for
+  same_but_for None h = ap Ok same_input
+  same_but_for (Some p) h = ap (λ (x : ℕ). Err (BadQuality p x)) (same p (omega arith))
 
   same_decoded : a + tick_bytes ≤ length s → b + tick_bytes ≤ length t → decoded_of s a ≡ decoded_of t b
-  unfolding decoded_of
+  unfolding decoded_of bad_place
   same_decoded p q =
-      rw (le-leb (a + tick_bytes) (length s) p, le-leb (b + tick_bytes) (length t) q, same_place, same_input)
-      (yes _ _ _ _ refl (sym (yes _ _ _ _ refl (sym (choose_alike _ _ _ _ (λ h. ap (BadQuality (bad_place t b)) (same_byte h)))))))
+      rw (le-leb (a + tick_bytes) (length s) p, le-leb (b + tick_bytes) (length t) q, same_place)
+      (yes _ _ _ _ refl (sym (yes _ _ _ _ refl (sym (same_but_for (bad_place t b) (bad_within t b readings 0 (omega arith)))))))
 
 -- a tick has all of its bytes
-whole_case : (s : List ℕ) (at : ℕ) (i : Input) (x : Bool) → leb (at + tick_bytes) (length s) ≡ x → Tick i ≡ decoded_of s at → at + tick_bytes ≤ length s
+whole_case : (s : List ℕ) (at : ℕ) (i : Input) (x : Bool) → leb (at + tick_bytes) (length s) ≡ x → Ok i ≡ decoded_of s at → at + tick_bytes ≤ length s
 whole_case s at i true e d = leb-true (at + tick_bytes) (length s) e
 whole_case s at i false e d =
-    let c : CutShort ≡ decoded_of s at = cut_short s at (leb-false (at + tick_bytes) (length s) e) in
+    let c : Err CutShort ≡ decoded_of s at = cut_short s at (leb-false (at + tick_bytes) (length s) e) in
     let z : ◌≡◌ {A = ℕ} 0 1 = cc in omega arith
 
-pub whole_tick : (s : List ℕ) (at : ℕ) (i : Input) → Tick i ≡ decoded_of s at → at + tick_bytes ≤ length s
+pub whole_tick : (s : List ℕ) (at : ℕ) (i : Input) → Ok i ≡ decoded_of s at → at + tick_bytes ≤ length s
 whole_tick s at i d = whole_case s at i (leb (at + tick_bytes) (length s)) refl d
 
 module _ (first second : List ℕ) (at : ℕ) where

@@ -1,5 +1,5 @@
 -- One tick of a recording, by its bytes. Definitions only.
-use Rattle.std.specs.Prelude.{ℕ, zero, suc, ◌+◌, ◌*◌, List, ltb, leb, length, get_or}
+use Rattle.std.specs.Prelude.{ℕ, zero, suc, ◌+◌, ◌*◌, List, Option, None, Some, Result, Ok, Err, ltb, leb, length, get_or}
 use Rattle.common.specs.Choice.{choose}
 use Rattle.measure.specs.declared.Reading.{Reading}
 use Rattle.phasor.specs.declared.Phasor.{Phasor}
@@ -7,8 +7,8 @@ use Rattle.phasor.specs.declared.Phasors.{Phasors}
 use Rattle.input.specs.declared.Input.{Input}
 use Rattle.quality.specs.Quality.{reading_by}
 use Rattle.recording_numbers.specs.Numbers.{number_bytes, number_at, float_at}
-use Rattle.recording_ticks.specs.declared.Decoded.{Decoded}
-use Rattle.recording_ticks.specs.declared.Decoded.TheVariants.{Tick, BadQuality, CutShort}
+use Rattle.recording_ticks.specs.declared.DecodeError.{DecodeError}
+use Rattle.recording_ticks.specs.declared.DecodeError.TheVariants.{BadQuality, CutShort}
 
 -- "the twelve readings": the six of 01, and from the seventh on, by 02, ticket 3, two for each pair
 abbrev pub readings : ℕ
@@ -77,17 +77,19 @@ input_at s at =
       sensor = get_or s (at + sensor_at) 0;
     }
 
--- the place of the first quality byte above 2 among those of n readings from the ith on; past them where there is none
-unfoldable pub bad_from : List ℕ → ℕ → ℕ → ℕ → ℕ
-bad_from s at zero i = reading_bytes * i
-bad_from s at (suc n) i = choose (ltb invalid (get_or s (at + reading_bytes * i) 0)) (reading_bytes * i) (bad_from s at n (suc i))
+-- the place of the first quality byte above 2 among those of n readings from the ith on, if there is one
+unfoldable pub bad_from : List ℕ → ℕ → ℕ → ℕ → Option ℕ
+bad_from s at zero i = None
+bad_from s at (suc n) i = choose (ltb invalid (get_or s (at + reading_bytes * i) 0)) (Some (reading_bytes * i)) (bad_from s at n (suc i))
 
-unfoldable pub bad_place : List ℕ → ℕ → ℕ
+unfoldable pub bad_place : List ℕ → ℕ → Option ℕ
 bad_place s at = bad_from s at readings 0
 
+-- the tick at a place, by the place of its first bad quality byte
+unfoldable pub tick_but_for : List ℕ → ℕ → Option ℕ → Result Input DecodeError
+tick_but_for s at (Some p) = Err (BadQuality p (get_or s (at + p) 0))
+tick_but_for s at None = Ok (input_at s at)
+
 -- "each 66 bytes"; "a quality byte above 2, or a last tick that is cut short"
-unfoldable pub decoded_of : List ℕ → ℕ → Decoded
-decoded_of s at =
-    choose (leb (at + tick_bytes) (length s))
-    (choose (ltb (bad_place s at) contacts_at) (BadQuality (bad_place s at) (get_or s (at + bad_place s at) 0)) (Tick (input_at s at)))
-    CutShort
+unfoldable pub decoded_of : List ℕ → ℕ → Result Input DecodeError
+decoded_of s at = choose (leb (at + tick_bytes) (length s)) (tick_but_for s at (bad_place s at)) (Err CutShort)

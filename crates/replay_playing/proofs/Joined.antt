@@ -9,22 +9,22 @@ use native.Mathlib.Omega.{arith}
 use lib.ListN.{length, length-append}
 use Rattle.input.specs.declared.Input.{Input}
 use Rattle.record.specs.declared.Regulator.{Regulator}
-use Rattle.recording_ticks.specs.declared.Decoded.{Decoded}
-use Rattle.recording_ticks.specs.declared.Decoded.TheVariants.{Tick, BadQuality, CutShort}
+use Rattle.std.specs.Prelude.{Result, Ok, Err}
+use Rattle.recording_ticks.specs.declared.DecodeError.{DecodeError}
+use Rattle.recording_ticks.specs.declared.DecodeError.TheVariants.{CutShort}
 use Rattle.recording_ticks.specs.Recorded.{tick_bytes, decoded_of}
 use Rattle.recording_ticks.proofs.Made.{cut_short}
 use Rattle.recording_ticks.proofs.Parts.{whole_tick, decoded_first, decoded_second}
 use Rattle.replay_playing.specs.Played.{Played, played_on, on_tick, play_from, played_of, played_after}
 use Rattle.replay_playing.proofs.Runs.{stop_at}
 
-on_alike : (d : Decoded) (f g : Input → Played) (p : Played) → ((i : Input) → f i ≡ g i) → on_tick d f p ≡ on_tick d g p
-on_alike (Tick i) f g p h = h i
-on_alike (BadQuality a b) f g p h = refl
-on_alike CutShort f g p h = refl
+on_alike : (d : Result Input DecodeError) (f g : Input → Played) (p : Played) → ((i : Input) → f i ≡ g i) → on_tick d f p ≡ on_tick d g p
+on_alike (Ok i) f g p h = h i
+on_alike (Err x) f g p h = refl
 
 -- nothing is left
 none_left : (n : ℕ) (bytes : List ℕ) (p : Played) → length bytes ≤ p.done → play_from n bytes p ≡ p
-none_left n bytes p h = stop_at n bytes p CutShort (cut_short bytes p.done (omega arith)) refl
+none_left n bytes p h = stop_at n bytes p CutShort (cut_short bytes p.done (omega arith))
 
 -- more turns than are needed make no difference
 turns_alike : (n m : ℕ) (bytes : List ℕ) (p : Played) → length bytes ≤ p.done + tick_bytes * n → length bytes ≤ p.done + tick_bytes * m
@@ -42,18 +42,17 @@ module _ (first second : List ℕ) where
     enough : length (first ++ second) ≤ q.done + tick_bytes * turns
     plays : play_from n (first ++ second) p ≡ play_from turns (first ++ second) q
 
-  on_case : (n : ℕ) (p : Played) (f : Input → Played) (d : Decoded) → d ≡ decoded_of first p.done → length (first ++ second) ≤ p.done + tick_bytes * n
+  on_case : (n : ℕ) (p : Played) (f : Input → Played) (d : Result Input DecodeError) → d ≡ decoded_of first p.done → length (first ++ second) ≤ p.done + tick_bytes * n
       → ((i : Input) (m : ℕ) → length (first ++ second) ≤ (played_on p i).done + tick_bytes * m → On (played_on p i) (f i) m)
       → On p (on_tick d f p) n
   unfolding play_from
-  on_case zero p f (Tick i) e h rest =
+  on_case zero p f (Ok i) e h rest =
       absurd (omega (arith, whole_tick first p.done i e, length-append first second))
-  on_case (suc n) p f (Tick i) e h rest =
+  on_case (suc n) p f (Ok i) e h rest =
       let q = rest i n (omega arith) in
-      let d : decoded_of (first ++ second) p.done ≡ Tick i = decoded_first first second p.done (whole_tick first p.done i e) ∙ sym e in
+      let d : decoded_of (first ++ second) p.done ≡ Ok i = decoded_first first second p.done (whole_tick first p.done i e) ∙ sym e in
       record { turns = q.turns; enough = q.enough; plays = rw d q.plays }
-  on_case n p f (BadQuality a b) e h rest = record { turns = n; enough = h; plays = refl }
-  on_case n p f CutShort e h rest = record { turns = n; enough = h; plays = refl }
+  on_case n p f (Err x) e h rest = record { turns = n; enough = h; plays = refl }
 
   -- the ticks of the first part
   play_first : (k n : ℕ) (p : Played) → length (first ++ second) ≤ p.done + tick_bytes * n → On p (play_from k first p) n
@@ -64,11 +63,10 @@ module _ (first second : List ℕ) where
 
   -- the ticks of the second
   module _ (p : Played) (e : p.done ≡ length first) where
-    second_case : (m : ℕ) (q : Played) (d : Decoded) (f g : Input → Played) → ((i : Input) → f i ≡ played_after p (g i))
+    second_case : (m : ℕ) (q : Played) (d : Result Input DecodeError) (f g : Input → Played) → ((i : Input) → f i ≡ played_after p (g i))
         → on_tick d f (played_after p q) ≡ played_after p (on_tick d g q)
-    second_case m q (Tick i) f g h = h i
-    second_case m q (BadQuality a b) f g h = refl
-    second_case m q CutShort f g h = refl
+    second_case m q (Ok i) f g h = h i
+    second_case m q (Err x) f g h = refl
 
     one_more : (q : Played) (i : Input) → played_on (played_after p q) i ≡ played_after p (played_on q i)
     one_more q i = rw (add_assoc p.done q.done tick_bytes, append_assoc)

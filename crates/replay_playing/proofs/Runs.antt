@@ -2,7 +2,7 @@
 -- Assumes nothing.
 use Prim.Native.Nat.{ℕ, zero, suc, ◌+◌, ◌*◌, ◌-◌, ◌≤◌, ◌<◌}
 use mathlib.Core.Path.{◌≡◌, refl, sym, ap, ◌∙◌}
-use mathlib.Core.Bool.{true, false, true≢false, false≢true}
+use mathlib.Core.Bool.{true}
 use mathlib.Core.List.{List, [], ◌∷◌, ◌++◌}
 use native.Mathlib.Omega.{arith}
 use lib.ListN.{length, take, drop, length-append, length-drop}
@@ -13,8 +13,10 @@ use lib.Dec.{leb}
 use Rattle.common.proofs.Cases.{yes, chosen}
 use Rattle.input.specs.declared.Input.{Input}
 use Rattle.record.specs.declared.Regulator.{Regulator}
-use Rattle.recording_ticks.specs.declared.Decoded.{Decoded}
-use Rattle.recording_ticks.specs.declared.Decoded.TheVariants.{Tick, BadQuality, CutShort}
+use Rattle.std.specs.Prelude.{Option, None, Some, Result, Ok, Err}
+use Rattle.std.proofs.lemmas.Option.{none-some, same_Some}
+use Rattle.recording_ticks.specs.declared.DecodeError.{DecodeError}
+use Rattle.recording_ticks.specs.declared.DecodeError.TheVariants.{CutShort}
 use Rattle.recording_lines.specs.Lines.{widest, line_of, placed, written_of, end_of}
 use Rattle.recording_ticks.specs.Recorded.{tick_bytes, decoded_of}
 use Rattle.recording_lines.proofs.Texts.{most_digits_lem}
@@ -22,17 +24,17 @@ use Rattle.recording_ticks.proofs.Made.{cut_short}
 use Rattle.showing.specs.Showing.{field_count, fields_of, outputs_of}
 use Rattle.rules.specs.declared.Ticked.{Ticked}
 use Rattle.rules.specs.Ticks as ticks
-use Rattle.rules.specs.Ticks.{ran_of, out_of, refused_of, tick_of}
+use Rattle.rules.specs.Ticks.{outputs_in, ran_of, out_of, refused_of, tick_of}
 use Rattle.replay_playing.specs.declared.Stepped.{Stepped}
 use Rattle.replay_playing.specs.Played.{Played, line_room, line_at, played_on, play_from, played_of, step_of, lines_of}
 
 -- ---- a line
 
-output_count : (r : Regulator) (i : Input) → length (tick_of r i).reply.outputs ≡ field_count
+output_count : (r : Regulator) (i : Input) → length (outputs_in (tick_of r i).reply) ≡ field_count
 unfolding tick_of out_of refused_of ran_of ticks.end_of outputs_of fields_of
 output_count r i =
-    chosen (λ (t : Ticked). length t.reply.outputs ≡ field_count) _ _ _
-    (λ p. chosen (λ (t : Ticked). length t.reply.outputs ≡ field_count) _ _ _ (λ q. refl) (λ q. refl)) (λ p. refl)
+    chosen (λ (t : Ticked Regulator). length (outputs_in t.reply) ≡ field_count) _ _ _
+    (λ p. chosen (λ (t : Ticked Regulator). length (outputs_in t.reply) ≡ field_count) _ _ _ (λ q. refl) (λ q. refl)) (λ p. refl)
 
 line_short : (ns : List ℕ) → length (line_of ns) ≤ widest * length ns
 unfolding line_of
@@ -40,7 +42,7 @@ line_short [] = omega arith
 line_short (n ∷ ns) = simp length-append (omega (arith, most_digits_lem n, line_short ns))
 
 pub line_fits : (r : Regulator) (i : Input) → length (line_at r i) ≤ line_room
-line_fits r i = omega (arith, line_short (tick_of r i).reply.outputs, output_count r i)
+line_fits r i = omega (arith, line_short (outputs_in (tick_of r i).reply), output_count r i)
 
 -- ---- a line that is put at the end of the lines
 
@@ -62,25 +64,22 @@ module _ (lines text : List ℕ) (end : ℕ) (h : end + length text ≤ length l
 
 -- ---- one tick
 
-module _ (bytes : List ℕ) (at : ℕ) (r : Regulator) (lines : List ℕ) (end : ℕ) {d : Decoded} (e : d ≡ decoded_of bytes at) where
-  abbrev Step : Stepped → List ℕ → Type 0
+module _ (bytes : List ℕ) (at : ℕ) (r : Regulator) (lines : List ℕ) (end : ℕ) {d : Result Input DecodeError} (e : d ≡ decoded_of bytes at) where
+  abbrev Step : Option Stepped → List ℕ → Type 0
   Step s after = (s ≡ step_of (decoded_of bytes at) r end) × (after ≡ lines_of (decoded_of bytes at) r lines end)
 
-  pub step_tick : {i : Input} {t : Ticked} {past : ℕ} {after : List ℕ} → end + line_room ≤ length lines → d ≡ Tick i → t ≡ tick_of r i
-      → after ≡ written_of t.reply.outputs lines end → past ≡ end_of t.reply.outputs lines end
-      → Step (record { next = t.next; end = past; taken = true }) after
+  pub step_tick : {i : Input} {t : Ticked Regulator} {o : List ℕ} {past : ℕ} {after : List ℕ} → end + line_room ≤ length lines → d ≡ Ok i → t ≡ tick_of r i → o ≡ outputs_in t.reply
+      → after ≡ written_of o lines end → past ≡ end_of o lines end
+      → Step (Some (record { next = t.next; end = past })) after
   unfolding written_of end_of
-  step_tick {i} {t} {past} {after} h p q w z =
-      let room : leb (end + widest * length (tick_of r i).reply.outputs) (length lines) ≡ true = le-leb (end + widest * length (tick_of r i).reply.outputs) (length lines) (omega (arith, output_count r i)) in
-      let f : past ≡ end + length (line_at r i) = z ∙ rw q (sym (yes _ _ _ _ room refl)) in
+  step_tick {i} {t} {o} {past} {after} h p q u w z =
+      let room : leb (end + widest * length (outputs_in (tick_of r i).reply)) (length lines) ≡ true = le-leb (end + widest * length (outputs_in (tick_of r i).reply)) (length lines) (omega (arith, output_count r i)) in
+      let f : past ≡ end + length (line_at r i) = z ∙ rw (u, q) (sym (yes _ _ _ _ room refl)) in
       rw (← e, p)
-      (rw (f, q), w ∙ rw q (sym (yes _ _ _ _ room refl)))
+      (rw (f, q), w ∙ rw (u, q) (sym (yes _ _ _ _ room refl)))
 
-  pub step_bad : (a b : ℕ) → d ≡ BadQuality a b → Step (record { next = r; end = end; taken = false }) lines
-  step_bad a b p = rw (← e, p) (refl, refl)
-
-  pub step_short : d ≡ CutShort → Step (record { next = r; end = end; taken = false }) lines
-  step_short p = rw (← e, p) (refl, refl)
+  pub step_none : (x : DecodeError) → d ≡ Err x → Step None lines
+  step_none x p = rw (← e, p) (refl, refl)
 
 -- ---- the run
 
@@ -99,19 +98,16 @@ going_start r bytes lines =
     record { fuel = length bytes; plays = refl; enough = omega arith; within = omega arith; short = omega arith; same = refl }
 
 on_tick_lem : (n : ℕ) (bytes : List ℕ) (whole p : Played) (i : Input) → play_from n bytes p ≡ whole → length bytes ≤ p.done + tick_bytes * n
-    → p.done + tick_bytes ≤ length bytes → Tick i ≡ decoded_of bytes p.done
+    → p.done + tick_bytes ≤ length bytes → Ok i ≡ decoded_of bytes p.done
     → (m : ℕ) × (play_from m bytes (played_on p i) ≡ whole) × (length bytes ≤ p.done + tick_bytes + tick_bytes * m)
 unfolding play_from
 on_tick_lem zero bytes whole p i e l h d = absurd (omega arith)
 on_tick_lem (suc n) bytes whole p i e l h d = (n, rw (← d) at e, omega arith)
 
-pub stop_at : (n : ℕ) (bytes : List ℕ) (p : Played) (d : Decoded) → d ≡ decoded_of bytes p.done → (step_of d p.state 0).taken ≡ false
-    → play_from n bytes p ≡ p
+pub stop_at : (n : ℕ) (bytes : List ℕ) (p : Played) (x : DecodeError) → Err x ≡ decoded_of bytes p.done → play_from n bytes p ≡ p
 unfolding play_from
-stop_at zero bytes p d e t = refl
-stop_at (suc n) bytes p (Tick i) e t = absurd (true≢false t)
-stop_at (suc n) bytes p (BadQuality a b) e t = rw (← e)
-stop_at (suc n) bytes p CutShort e t = rw (← e)
+stop_at zero bytes p x e = refl
+stop_at (suc n) bytes p x e = rw (← e)
 
 module _ {bytes : List ℕ} {whole : Played} {room : ℕ} {r : Regulator} {done end : ℕ} {lines : List ℕ}
     (g : Going bytes whole room r done end lines)
@@ -123,61 +119,50 @@ module _ {bytes : List ℕ} {whole : Played} {room : ℕ} {r : Regulator} {done 
       pub line_room_lem : end + line_room ≤ length lines
       line_room_lem = omega (arith, g.within, g.short, g.same)
 
-      on_case : (d : Decoded) → d ≡ decoded_of bytes done → (step_of d r end).taken ≡ true
-          → Going bytes whole room (step_of d r end).next (done + tick_bytes) (step_of d r end).end (lines_of d r lines end)
-      on_case (Tick i) e t =
+      on_case : (d : Result Input DecodeError) → d ≡ decoded_of bytes done → {s : Stepped} → Some s ≡ step_of d r end
+          → Going bytes whole room s.next (done + tick_bytes) s.end (lines_of d r lines end)
+      on_case (Ok i) e {s} t =
+          let here_is : s ≡ record { next = (tick_of r i).next; end = end + length (line_at r i) } = same_Some s (record { next = (tick_of r i).next; end = end + length (line_at r i) }) t in
           let fits : end + length (line_at r i) ≤ length lines = omega (arith, line_room_lem, line_fits r i) in
           let q = on_tick_lem g.fuel bytes whole here i g.plays g.enough (omega (arith, g.within)) e in
-          record {
+          rw here_is (record {
             fuel = q.0;
             plays = ap (λ (l : List ℕ). play_from q.0 bytes (record { state = (tick_of r i).next; done = done + tick_bytes; text = l })) (put_text lines (line_at r i) end fits) ∙ q.1;
             enough = q.2;
             within = omega (arith, g.within);
             short = omega (arith, g.short, line_fits r i);
             same = put_length lines (line_at r i) end fits ∙ g.same;
-          }
-      on_case (BadQuality a b) e t = absurd (false≢true t)
-      on_case CutShort e t = absurd (false≢true t)
+          })
+      on_case (Err x) e {s} t = absurd (none-some s (sym t))
 
-      pub going_on : {s : Stepped} {after : List ℕ} → s ≡ step_of (decoded_of bytes done) r end → after ≡ lines_of (decoded_of bytes done) r lines end
-          → s.taken ≡ true → Going bytes whole room s.next (done + tick_bytes) s.end after
-      going_on p q t = rw (p, q) (on_case (decoded_of bytes done) refl (ap (λ (x : Stepped). x.taken) (sym p) ∙ t))
+      pub going_on : {s : Stepped} {after : List ℕ} → Some s ≡ step_of (decoded_of bytes done) r end → after ≡ lines_of (decoded_of bytes done) r lines end
+          → Going bytes whole room s.next (done + tick_bytes) s.end after
+      going_on p q = rw q (on_case (decoded_of bytes done) refl p)
 
     -- the end of the lines is within them
     pub going_counts : line_room * length bytes ≤ tick_bytes * room → IsPrefixLen end lines
     going_counts k = prefix_len_of_le end lines (omega (arith, g.within, g.short, g.same))
 
-    stopped : (d : Decoded) → d ≡ decoded_of bytes done → (step_of d r 0).taken ≡ false → here ≡ whole
-    stopped d e t = sym (stop_at g.fuel bytes here d e t) ∙ g.plays
+    stopped : (x : DecodeError) → Err x ≡ decoded_of bytes done → here ≡ whole
+    stopped x e = sym (stop_at g.fuel bytes here x e) ∙ g.plays
 
     -- fewer bytes than a tick's are left
     pub going_end : length bytes - done < tick_bytes → here ≡ whole
-    going_end h = stopped CutShort (cut_short bytes done (omega (arith, g.within))) refl
+    going_end h = stopped CutShort (cut_short bytes done (omega (arith, g.within)))
 
-    same_taken : (d : Decoded) → (step_of d r end).taken ≡ (step_of d r 0).taken
-    same_taken (Tick i) = refl
-    same_taken (BadQuality a b) = refl
-    same_taken CutShort = refl
-
-    not_taken : (d : Decoded) → (step_of d r end).taken ≡ false → lines_of d r lines end ≡ lines
-    not_taken (Tick i) t = absurd (true≢false t)
-    not_taken (BadQuality a b) t = refl
-    not_taken CutShort t = refl
+    no_tick : (d : Result Input DecodeError) → d ≡ decoded_of bytes done → None ≡ step_of d r end → (lines_of d r lines end ≡ lines) × (here ≡ whole)
+    no_tick (Ok i) e t = absurd (none-some (record { next = (tick_of r i).next; end = end + length (line_at r i) }) t)
+    no_tick (Err x) e t = (refl, stopped x e)
 
     -- what stands here is no tick: the lines are as they were
-    module _ {s : Stepped} {after : List ℕ} (p : s ≡ step_of (decoded_of bytes done) r end) (q : after ≡ lines_of (decoded_of bytes done) r lines end)
-        (t : s.taken ≡ false)
-      where
-        no_tick : (step_of (decoded_of bytes done) r end).taken ≡ false
-        no_tick = ap (λ (x : Stepped). x.taken) (sym p) ∙ t
+    module _ {after : List ℕ} (p : None ≡ step_of (decoded_of bytes done) r end) (q : after ≡ lines_of (decoded_of bytes done) r lines end) where
+      pub lines_kept : after ≡ lines
+      lines_kept = q ∙ (no_tick (decoded_of bytes done) refl p).0
 
-        pub lines_kept : after ≡ lines
-        lines_kept = q ∙ not_taken (decoded_of bytes done) no_tick
+      pub going_stop : ◌≡◌ {A = Played} (record { state = r; done = done; text = take end after }) whole
+      going_stop =
+          ap (λ (l : List ℕ). record { state = r; done = done; text = take end l }) lines_kept
+          ∙ (no_tick (decoded_of bytes done) refl p).1
 
-        pub going_stop : ◌≡◌ {A = Played} (record { state = r; done = done; text = take end after }) whole
-        going_stop =
-            ap (λ (l : List ℕ). record { state = r; done = done; text = take end l }) lines_kept
-            ∙ stopped (decoded_of bytes done) refl (sym (same_taken (decoded_of bytes done)) ∙ no_tick)
-
-        pub stop_counts : line_room * length bytes ≤ tick_bytes * room → IsPrefixLen end after
-        stop_counts k = rw lines_kept (going_counts k)
+      pub stop_counts : line_room * length bytes ≤ tick_bytes * room → IsPrefixLen end after
+      stop_counts k = rw lines_kept (going_counts k)

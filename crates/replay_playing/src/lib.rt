@@ -7,14 +7,13 @@ ghost use Rattle.recording_ticks.specs.Recorded.{tick_bytes, decoded_of};
 ghost use Rattle.replay_playing.specs.Played.{line_room, step_of, lines_of, played_to, played_of};
 
 use record::Regulator;
-use recording_ticks::{Decoded, TICK};
+use recording_ticks::TICK;
 
-// After one tick: the next record, the end of the lines, and whether there was a tick.
+// After one tick: the next record, and the end of the lines.
 #[derive(Clone, Copy)]
 pub struct Stepped {
     pub next: Regulator,
     pub end: usize,
-    pub taken: bool,
 }
 
 // After some ticks: the next record, the bytes that they took, and the end of their lines.
@@ -25,36 +24,23 @@ pub struct Ran {
     pub end: usize,
 }
 
-// The tick at this place, its line put at the end of the lines.
-fn step(state: Regulator, bytes: &[u8], at: usize, lines: &mut [u8], end: usize) -> Stepped
+// The tick at this place, if there is one, its line put at the end of the lines.
+fn step(state: Regulator, bytes: &[u8], at: usize, lines: &mut [u8], end: usize) -> Option<Stepped>
     requires { end + line_room ≤ length lines.old }
     ensures step { result ≡ step_of (decoded_of bytes.now at) state end }
     ensures text { lines.new ≡ lines_of (decoded_of bytes.now at) state lines.old end }
 {
-    let decoded = recording_ticks::decode_tick(bytes, at);
-    match decoded {
-        Decoded::Tick(input) => {
+    match recording_ticks::decode_tick(bytes, at) {
+        Ok(input) => {
             let ticked = regulator::tick(state, input);
-            let reply = ticked.reply;
-            let outputs = reply.outputs;
-            let next = ticked.next;
-            let past = recording_lines::write_line(&outputs, lines, end);
-            Stepped {
-                next: next,
-                end: past,
-                taken: true,
-            }
+            let outputs = rules::outputs_in(ticked.reply);
+            let end = recording_lines::write_line(&outputs, lines, end);
+            Some(Stepped {
+                next: ticked.next,
+                end,
+            })
         }
-        Decoded::BadQuality { place: _, byte: _ } => Stepped {
-            next: state,
-            end: end,
-            taken: false,
-        },
-        Decoded::CutShort => Stepped {
-            next: state,
-            end: end,
-            taken: false,
-        },
+        Err(_) => None,
     }
 }
 
@@ -67,18 +53,16 @@ pub fn run_ticks(state: Regulator, bytes: &[u8], lines: &mut [u8]) -> Ran
     let mut next = state;
     let mut done: usize = 0;
     let mut end: usize = 0;
+    // By a tick's bytes, while they last.
     while bytes.len() - done >= TICK {
-        let stepped = step(next, bytes, done, lines, end);
-        if !stepped.taken {
-            break;
+        match step(next, bytes, done, lines, end) {
+            Some(stepped) => {
+                next = stepped.next;
+                end = stepped.end;
+            }
+            None => break,
         }
-        next = stepped.next;
-        end = stepped.end;
         done += TICK;
     }
-    Ran {
-        next: next,
-        done: done,
-        end: end,
-    }
+    Ran { next, done, end }
 }

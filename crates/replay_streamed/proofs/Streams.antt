@@ -12,8 +12,8 @@ use lib.ListN.{length, take, length-append}
 use lib.Seq.{length-take-le}
 use Rattle.input.specs.declared.Input.{Input}
 use Rattle.record.specs.declared.Regulator.{Regulator}
-use Rattle.recording_ticks.specs.declared.Decoded.{Decoded}
-use Rattle.recording_ticks.specs.declared.Decoded.TheVariants.{Tick, BadQuality, CutShort}
+use Rattle.std.specs.Prelude.{Result, Ok, Err}
+use Rattle.recording_ticks.specs.declared.DecodeError.{DecodeError}
 use Rattle.recording_ticks.specs.Recorded.{tick_bytes, decoded_of}
 use Rattle.recording_ticks.proofs.Parts.{whole_tick}
 use Rattle.replay_playing.specs.Played.{Played, played_on, on_tick, play_from, played_of, played_after}
@@ -42,11 +42,10 @@ full_of false done e = let z : ◌≡◌ {A = Bool} false true = e in let y : �
 
 -- ---- no more bytes are played than there are
 
-within_case : (bytes : List ℕ) (p : Played) (f : Input → Played) (d : Decoded) → d ≡ decoded_of bytes p.done → p.done ≤ length bytes
+within_case : (bytes : List ℕ) (p : Played) (f : Input → Played) (d : Result Input DecodeError) → d ≡ decoded_of bytes p.done → p.done ≤ length bytes
     → ((i : Input) → p.done + tick_bytes ≤ length bytes → (f i).done ≤ length bytes) → (on_tick d f p).done ≤ length bytes
-within_case bytes p f (Tick i) e h rest = rest i (whole_tick bytes p.done i e)
-within_case bytes p f (BadQuality a b) e h rest = h
-within_case bytes p f CutShort e h rest = h
+within_case bytes p f (Ok i) e h rest = rest i (whole_tick bytes p.done i e)
+within_case bytes p f (Err x) e h rest = h
 
 play_within : (n : ℕ) (bytes : List ℕ) (p : Played) → p.done ≤ length bytes → (play_from n bytes p).done ≤ length bytes
 unfolding play_from

@@ -4,7 +4,9 @@
 
 use record::Regulator;
 
-// After the ticks of a chunk: the next record, the bytes that they took, the end of their lines, and whether the lines were written.
+// After the ticks of a chunk: the next record, the bytes that they took, the end of their lines, and whether the lines were written. The
+// ticks count whether or not they were. The fields of `replay_playing::Ran` stand here once more: `advanced.ran.ran.next` is no plainer than
+// `advanced.ran.next`.
 #[derive(Clone, Copy)]
 pub struct Written {
     pub next: Regulator,
@@ -13,7 +15,7 @@ pub struct Written {
     pub written: bool,
 }
 
-// After a chunk: its run, the bytes that were read, and whether the whole run is over.
+// After a chunk: its run, the bytes that were read, and whether the whole run is over. The chunk counts whether or not it is.
 #[derive(Clone, Copy)]
 pub struct Advanced {
     pub ran: Written,

@@ -6,6 +6,7 @@ ghost use Rattle.recording_ticks.specs.Recorded.{tick_bytes};
 ghost use Rattle.replay_playing.specs.Played.{line_room, played_to, played_of};
 ghost use Rattle.replay_streamed.specs.Streamed.{chunk_bytes, Chunk, Streamed, Replayed};
 
+use files::Filled;
 use record::Regulator;
 use recording_lines::WIDEST;
 use recording_ticks::TICK;
@@ -30,14 +31,11 @@ fn run_chunk<R: Print>(rt: &R, state: Regulator, bytes: &[u8], lines: &mut [u8])
     ensures { played_to result.next result.done result.end lines.new ≡ played_of state bytes.now }
 {
     let ran = replay_playing::run_ticks(state, bytes, lines);
-    let end = ran.end;
-    let next = ran.next;
-    let written = rt.write_all(&lines[..end]).is_ok();
     Written {
-        next: next,
+        next: ran.next,
         done: ran.done,
-        end: end,
-        written: written,
+        end: ran.end,
+        written: rt.write_all(&lines[..ran.end]).is_ok(),
     }
 }
 
@@ -55,33 +53,32 @@ fn run_some<R: Print, E: Print, F: Read>(
     requires { line_room * length space.old ≤ tick_bytes * length lines.old }
     ensures { Chunk state space.new lines.new result }
 {
-    let filled = files::fill(file, space);
-    let got = filled.got;
+    let Filled { got, failed } = files::fill(file, space);
     let ran = run_chunk(rt, state, &space[..got], lines);
     if !ran.written {
         replay_telling::cannot_write(err);
         return Advanced {
-            ran: ran,
-            got: got,
+            ran,
+            got,
             over: true,
         };
     }
     if ran.done == CHUNK {
         return Advanced {
-            ran: ran,
-            got: got,
+            ran,
+            got,
             over: false,
         };
     }
-    replay_telling::report(err, path, &space[..got], ran.done, offset, filled.failed);
+    replay_telling::report(err, path, &space[..got], ran.done, offset, failed);
     Advanced {
-        ran: ran,
-        got: got,
+        ran,
+        got,
         over: true,
     }
 }
 
-// A proved loop has to end, and nothing says that a file does. So it counts its turns down, from a number that no run uses up.
+// A proved loop has to end, and nothing says that a file does. So it counts its turns, up to a number that no run uses up.
 fn run_chunks<R: Print, E: Print, F: Read>(
     rt: &R,
     err: &E,
@@ -96,32 +93,27 @@ fn run_chunks<R: Print, E: Print, F: Read>(
 {
     let mut next = state;
     let mut offset: u64 = 0;
-    let mut turns = TURNS;
-    while turns > 0 {
-        let start = next;
-        let advanced = run_some(rt, err, file, path, start, offset, space, lines);
-        let ran = advanced.ran;
-        let reached = ran.next;
+    for turn in 0..TURNS {
+        let advanced = run_some(rt, err, file, path, next, offset, space, lines);
         if advanced.over {
             return Ended {
-                ran: ran,
+                ran: advanced.ran,
                 got: advanced.got,
-                offset: offset,
+                offset,
             };
         }
-        next = reached;
+        next = advanced.ran.next;
         offset += CHUNK as u64;
-        turns -= 1;
     }
     Ended {
         ran: Written {
-            next: next,
+            next,
             done: 0,
             end: 0,
             written: true,
         },
         got: 0,
-        offset: offset,
+        offset,
     }
 }
 

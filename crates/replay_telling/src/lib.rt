@@ -1,46 +1,32 @@
 // What is told of a run on standard error, a line each. What cannot be written there is not told.
 #![tactic(auto)]
 
-use recording_ticks::Decoded;
-
-fn text<E: Print>(err: &E, t: &[u8]) {
-    let _ = err.write_all(t);
-}
-
-fn number<E: Print>(err: &E, n: u64) {
-    let _ = err.print(n);
-}
+use recording_ticks::DecodeError;
 
 pub fn usage<E: Print>(err: &E) {
-    text(err, b"usage: replay SHEET RECORDING\n");
+    let _ = println!(err; "usage: replay SHEET RECORDING");
 }
 
 pub fn cannot_read<E: Print>(err: &E, path: &[u8]) {
-    text(err, b"replay: cannot read ");
-    text(err, path);
-    text(err, b"\n");
+    let _ = print!(err; "replay: cannot read ");
+    let _ = err.write_all(path);
+    let _ = println!(err);
 }
 
 pub fn cannot_write<E: Print>(err: &E) {
-    text(err, b"replay: cannot write the output\n");
+    let _ = println!(err; "replay: cannot write the output");
 }
 
 pub fn bad_quality<E: Print>(err: &E, path: &[u8], byte: u8, offset: u64) {
-    text(err, b"replay: ");
-    text(err, path);
-    text(err, b": quality byte ");
-    number(err, byte as u64);
-    text(err, b" at offset ");
-    number(err, offset);
-    text(err, b" is above 2\n");
+    let _ = print!(err; "replay: ");
+    let _ = err.write_all(path);
+    let _ = println!(err; ": quality byte {byte} at offset {offset} is above 2");
 }
 
 pub fn cut_short<E: Print>(err: &E, path: &[u8], offset: u64) {
-    text(err, b"replay: ");
-    text(err, path);
-    text(err, b": the last tick is cut short at offset ");
-    number(err, offset);
-    text(err, b"\n");
+    let _ = print!(err; "replay: ");
+    let _ = err.write_all(path);
+    let _ = println!(err; ": the last tick is cut short at offset {offset}");
 }
 
 // Says what ended the run: a bad quality byte, a read that failed, or bytes that are left over. `offset` is where the bytes start in
@@ -53,25 +39,18 @@ pub fn report<E: Print>(
     offset: u64,
     failed: bool,
 ) {
-    let decoded = recording_ticks::decode_tick(bytes, done);
-    match decoded {
-        Decoded::Tick(_) => {}
-        Decoded::BadQuality { place, byte } => {
-            let start = std::num::wrapping_add_u64(offset, done as u64);
-            let at = std::num::wrapping_add_u64(start, place as u64);
-            bad_quality(err, path, byte, at);
+    match recording_ticks::decode_tick(bytes, done) {
+        Ok(_) => {}
+        Err(DecodeError::BadQuality { place, byte }) => {
+            let start = offset.wrapping_add(done as u64);
+            bad_quality(err, path, byte, start.wrapping_add(place as u64));
         }
-        Decoded::CutShort => report_end(err, path, bytes.len(), done, offset, failed),
-    }
-}
-
-fn report_end<E: Print>(err: &E, path: &[u8], got: usize, done: usize, offset: u64, failed: bool) {
-    if failed {
-        cannot_read(err, path);
-        return;
-    }
-    if done < got {
-        let end = std::num::wrapping_add_u64(offset, got as u64);
-        cut_short(err, path, end);
+        Err(DecodeError::CutShort) => {
+            if failed {
+                cannot_read(err, path);
+            } else if done < bytes.len() {
+                cut_short(err, path, offset.wrapping_add(bytes.len() as u64));
+            }
+        }
     }
 }

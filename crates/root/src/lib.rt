@@ -8,6 +8,7 @@ ghost use Rattle.root.specs.Roots.{root_of, Root, with_step};
 const DIGITS: u32 = 32;
 
 // The root so far with a step added, if the square does not pass n.
+#[tactic(auto, using(crate::proofs::Laws::steps), unfolding(crate::specs::Roots::with_step))]
 fn with_step(n: u64, r: u64, step: u64) -> u64
     requires { r + step < 2 ^ 32 }
     ensures { result ≡ with_step n r step }
@@ -22,9 +23,7 @@ pub fn root(n: u64) -> u64
     ensures largest { Root n result }
 {
     let mut r: u64 = 0;
-    let mut i = DIGITS;
-    while i > 0 {
-        i -= 1;
+    for i in (0..DIGITS).rev() {
         r = with_step(n, r, 1 << i);
     }
     r

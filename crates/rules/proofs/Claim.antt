@@ -34,10 +34,10 @@ kept r is =
     }
 
 -- the list that a call opens, once the call gave what `tick_of` says
-pub kept_from : (r : Regulator) (i : Input) (t : Ticked) → t ≡ tick_of r i → (later : List Input) → Kept (opening r) (list_from r i t later)
-kept_from r i t e later = subst (λ (u : Ticked). Kept (opening r) (list_from r i u later)) (sym e) (kept r (i ∷ later))
+pub kept_from : (r : Regulator) (i : Input) (t : Ticked Regulator) → t ≡ tick_of r i → (later : List Input) → Kept (opening r) (list_from r i t later)
+kept_from r i t e later = subst (λ (u : Ticked Regulator). Kept (opening r) (list_from r i u later)) (sym e) (kept r (i ∷ later))
 
 -- all that a call promises, from the first
-pub promised : (r : Regulator) (i : Input) {t : Ticked} → t ≡ tick_of r i
+pub promised : (r : Regulator) (i : Input) {t : Ticked Regulator} → t ≡ tick_of r i
     → (t ≡ tick_of r i) × ((within_of t.next ≡ within_of r) × ((later : List Input) → Kept (opening r) (list_from r i t later)))
-promised r i {t} e = (e, (ap (λ (u : Ticked). within_of u.next) e ∙ tick_lasting r i, kept_from r i t e))
+promised r i {t} e = (e, (ap (λ (u : Ticked Regulator). within_of u.next) e ∙ tick_lasting r i, kept_from r i t e))

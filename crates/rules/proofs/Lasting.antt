@@ -21,8 +21,7 @@ use Rattle.drive.specs.declared.Drive.{Drive}
 use Rattle.drive.specs.declared.Drive.TheVariants.{Asked}
 use Rattle.fault.specs.declared.Fault.{Fault}
 use Rattle.fault.specs.declared.Latch.{Latch}
-use Rattle.ways.specs.declared.Way.{Way}
-use Rattle.ways.specs.declared.Way.TheVariants.{Neither, To}
+use Rattle.std.specs.Prelude.{Option, None, Some}
 use Rattle.drive_follow.specs.declared.Followed.{Followed}
 use Rattle.drive_follow.specs.Follow as follow
 use Rattle.drive_follow.specs.Follow.{rests_of}
@@ -32,7 +31,6 @@ use Rattle.fault.proofs.Kept.{later_long, reset_long}
 use Rattle.command.specs.declared.Decided.{Decided}
 use Rattle.command.specs.declared.Situation.{Situation}
 use Rattle.command.specs.declared.Wait.{Wait}
-use Rattle.command.specs.declared.Wait.TheVariants.{Idle, For}
 use Rattle.command.specs.Idling.{longest_wait}
 use Rattle.command_automatic.specs.Automatic.{delay_of}
 use Rattle.command_deciding.proofs.Sound.{Sound}
@@ -51,27 +49,27 @@ use Rattle.input.specs.declared.Readings.{Readings}
 
 -- ---- the parts of a record within its limits
 
-pub record Parts (s : List ℕ) (d : Drive) (w : Wait) (l : Latch) : Type 0 where
+pub record Parts (s : List ℕ) (d : Drive) (w : Option Wait) (l : Latch) : Type 0 where
   pub ticks : leb (ticks_of w) longest_wait ≡ true
   pub rested : (rests_of d || eqb (ticks_of w) 0) ≡ true
   pub moves : kind_within s d l.fault ≡ true
   pub stopped : (not (is_fault l.fault) || rests_of d) ≡ true
   pub latched : latch_within l (slot s t8) ≡ true
 
-pub motion_parts : (s : List ℕ) (d : Drive) (w : Wait) (l : Latch) → motion_within s d w l ≡ true → Parts s d w l
+pub motion_parts : (s : List ℕ) (d : Drive) (w : Option Wait) (l : Latch) → motion_within s d w l ≡ true → Parts s d w l
 unfolding motion_within
 motion_parts s d w l e =
     let h = and_five _ _ _ _ _ e in
     record { ticks = h.0; rested = h.1; moves = h.2; stopped = h.3; latched = h.4 }
 
-pub parts_motion : (s : List ℕ) (d : Drive) (w : Wait) (l : Latch) → Parts s d w l → motion_within s d w l ≡ true
+pub parts_motion : (s : List ℕ) (d : Drive) (w : Option Wait) (l : Latch) → Parts s d w l → motion_within s d w l ≡ true
 unfolding motion_within
 parts_motion s d w l p = rw (p.ticks, p.rested, p.moves, p.stopped, p.latched)
 
 -- ---- rule 9: the wait and the drive after a decision
 
 module _ (s : List ℕ) (pass : passes_of s ≡ true) where
-  delay_most : (d : Direction) (far : Bool) (w : Way) → delay_of s d far w ≤ most_ticks
+  delay_most : (d : Direction) (far : Bool) (w : Option Direction) → delay_of s d far w ≤ most_ticks
   unfolding delay_of
   delay_most d far w =
       chosen (λ n. n ≤ most_ticks) _ _ _ (λ p. (t3_range s pass).1)
@@ -81,23 +79,23 @@ module _ (s : List ℕ) (pass : passes_of s ≡ true) where
   module _ (x : Situation) (o : Decided) (sound : Sound s x o) (d : Drive) (b : Bool) (l : Latch)
       (rest : x.resting ≡ true → rests_of d ≡ true)
       (moves : kind_within s d l.fault ≡ true)
-      (stopped : is_fault l.fault ≡ true → (rests_of d ≡ true) × (o.command ≡ Neither))
+      (stopped : is_fault l.fault ≡ true → (rests_of d ≡ true) × (o.command ≡ None))
       (held : latch_within l (slot s t8) ≡ true) where
-    ticks_kept : (w : Wait) → o.wait ≡ w → leb (ticks_of w) longest_wait ≡ true
+    ticks_kept : (w : Option Wait) → o.wait ≡ w → leb (ticks_of w) longest_wait ≡ true
     unfolding ticks_of
-    ticks_kept Idle e = refl
-    ticks_kept (For e n) q =
-        le-leb n longest_wait (omega (arith, (sound.waits e n q).early, delay_most e x.far x.repeat))
+    ticks_kept None e = refl
+    ticks_kept (Some w) q =
+        le-leb w.ticks longest_wait (omega (arith, (sound.waits w.direction w.ticks q).early, delay_most w.direction x.far x.repeat))
 
-    rested_kept : (w : Wait) → o.wait ≡ w → (rests_of (ask_of d b o.command) || eqb (ticks_of w) 0) ≡ true
+    rested_kept : (w : Option Wait) → o.wait ≡ w → (rests_of (ask_of d b o.command) || eqb (ticks_of w) 0) ≡ true
     unfolding ticks_of ask_of
-    rested_kept Idle e = or_true (rests_of (ask_of d b o.command))
-    rested_kept (For e n) q = rw ((sound.waits e n q).command, rest (sound.waits e n q).resting)
+    rested_kept None e = or_true (rests_of (ask_of d b o.command))
+    rested_kept (Some w) q = rw ((sound.waits w.direction w.ticks q).command, rest (sound.waits w.direction w.ticks q).resting)
 
-    moves_kept : (w : Way) → kind_within s (ask_of d b w) l.fault ≡ true
+    moves_kept : (w : Option Direction) → kind_within s (ask_of d b w) l.fault ≡ true
     unfolding ask_of follow.within_of hold.within_of
-    moves_kept Neither = moves
-    moves_kept (To e) =
+    moves_kept None = moves
+    moves_kept (Some e) =
         ⊎_elim
         (λ c.
         held_kind s (Asked e 0 b) l.fault c (lt-ltb 0 (slot s t4) (omega (arith, (t4_range s pass).0))) (kind_long s d l.fault c moves))
@@ -123,7 +121,7 @@ module _ (s : List ℕ) (pass : passes_of s ≡ true) where
 -- ---- rules 2 and 7: the drive and the latch
 
 -- a fault that is latched after the tick has the drive at rest
-module _ (s : List ℕ) (c : Contacts) (x : Finding) (d : Drive) (l : Latch) (last : Way) (four : 1 ≤ slot s t4)
+module _ (s : List ℕ) (c : Contacts) (x : Finding) (d : Drive) (l : Latch) (last : Option Direction) (four : 1 ≤ slot s t4)
     (before : (not (is_fault l.fault) || rests_of d) ≡ true) where
   -- the drive, followed with the latch after reset
   abbrev pub after : Followed
@@ -160,7 +158,7 @@ module _ (s : List ℕ) (c : Contacts) (x : Finding) (d : Drive) (l : Latch) (la
 
 -- ---- 02, ticket 6: a press that is remembered is beside no fault
 
-pub kept_press : (c : Contacts) (f : Fault) (n : Noted) → press_within f (kept_press_of c f n) ≡ true
+pub kept_press : (c : Contacts) (f : Option Fault) (n : Noted) → press_within f (kept_press_of c f n) ≡ true
 unfolding press_within
 kept_press c f n =
     ⊎_elim (λ e. rw (fault_drops c f n e) (ap not (and_false (is_fault f)))) (λ e. rw e refl) (split (is_fault f))

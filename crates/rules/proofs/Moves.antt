@@ -43,7 +43,7 @@ module _ (d : Direction) (rest : Bool) (g : Drive) (r : Regulator) (i : Input) (
   goes_on =
       let v = live_of d rest r i l in
       let n : (situation_at r i).resting ≡ false = ap (λ (b : Bool). b && rests_of (supervised_at r i).drive) (ap rests_of e ∙ busy) in
-      ap (λ (t : Ticked). t.next.state.drive) v.is ∙ live_drive r i
+      ap (λ (t : Ticked Regulator). t.next.state.drive) v.is ∙ live_drive r i
       ∙ ap (λ (o : Decided). ask_of (supervised_at r i).drive (contacts_at i).automatic o.command) (sym (decided_idle r.settings (situation_at r i) n))
       ∙ followed_is r i ∙ ap (λ (h : Drive). (followed_at h r i).drive) e ∙ ap (λ (o : Followed). o.drive) by_contact
 

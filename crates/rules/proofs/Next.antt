@@ -13,8 +13,8 @@ use Rattle.common.proofs.Joined.{and_left, and_right, and_four}
 use Rattle.sheet.proofs.Laws.{t4_range}
 use Rattle.organ_limits.specs.Limits.{organs_within}
 use Rattle.organ_limits.proofs.Within.{all_step_within}
-use Rattle.ways.specs.declared.Way.{Way}
-use Rattle.ways.specs.declared.Way.TheVariants.{Neither, To}
+use Rattle.std.specs.Prelude.{Option, None, Some}
+use Rattle.ways.specs.declared.Direction.{Direction}
 use Rattle.drive_follow.specs.Follow.{rests_of}
 use Rattle.fault.specs.Latches.{is_fault, latched_of}
 use Rattle.fault.proofs.Kept.{latched_within}
@@ -91,9 +91,9 @@ module _ (r : Regulator) (h : within_of r ≡ true) where
     mode_in_fault e =
         chosen (λ b. b ≡ true) _ _ _ (λ p. fault_blocks_automatic r.settings c _ e) (λ p. fault_blocks_manual r.settings c _ e)
 
-    no_command_lem : is_fault v.latch.fault ≡ true → (w : Way) → decided.command ≡ w → decided.command ≡ Neither
-    no_command_lem e Neither q = q
-    no_command_lem e (To d) q = let z : ◌≡◌ {A = Bool} true false = sym (mode_in_fault e) ∙ (sound.begins d q).mode in cc
+    no_command_lem : is_fault v.latch.fault ≡ true → (w : Option Direction) → decided.command ≡ w → decided.command ≡ None
+    no_command_lem e None q = q
+    no_command_lem e (Some d) q = let z : ◌≡◌ {A = Bool} true false = sym (mode_in_fault e) ∙ (sound.begins d q).mode in cc
 
     rest : situated.resting ≡ true → rests_of v.drive ≡ true
     unfolding situation_of
@@ -126,9 +126,9 @@ module _ (r : Regulator) (h : within_of r ≡ true) where
 pub tick_lasting : (r : Regulator) (i : Input) → within_of (tick_of r i).next ≡ within_of r
 unfolding tick_of out_of refused_of
 tick_lasting r i =
-    chosen (λ (t : Ticked). within_of t.next ≡ within_of r) (within_of r) _ _
+    chosen (λ (t : Ticked Regulator). within_of t.next ≡ within_of r) (within_of r) _ _
     (λ h.
-    chosen (λ (t : Ticked). within_of t.next ≡ within_of r) _ _ _
+    chosen (λ (t : Ticked Regulator). within_of t.next ≡ within_of r) _ _ _
     (λ p. fresh_within r.settings (pass r h) ∙ sym h)
     (λ p. next_within r h i (contacts_of i.contacts) ∙ sym h))
     (λ h. refl)

@@ -2,7 +2,7 @@
 -- Assumes nothing.
 use mathlib.Core.Path.{◌≡◌, refl, sym, ◌∙◌}
 use mathlib.Core.Bool.{true, false, true≢false}
-use Rattle.ways.specs.declared.Way.TheVariants.{Neither}
+use Rattle.std.specs.Prelude.{None}
 use Rattle.drive_follow.specs.Follow.{rests_of}
 use Rattle.fault.specs.Latches.{is_fault}
 use Rattle.input.specs.declared.Contacts.{Contacts}
@@ -24,24 +24,24 @@ module _ (r : Regulator) (i : Input) (h : within_of r ≡ true) where
   c = contacts_of i.contacts
 
   -- rule 1's record holds none; else what rules 7 and 9 leave
-  by_the_rules : (is_out r c ≡ false → kept_press_of c (supervised_in r c (sensed_in r i c)).latch.fault (noted_in r c (sensed_in r i c)) ≡ Neither) → (tick_of r i).next.state.memory.remembered ≡ Neither
+  by_the_rules : (is_out r c ≡ false → kept_press_of c (supervised_in r c (sensed_in r i c)).latch.fault (noted_in r c (sensed_in r i c)) ≡ None) → (tick_of r i).next.state.memory.remembered ≡ None
   unfolding out_of fresh_of ran_of end_of acted_of regulated_of
   by_the_rules p =
-      tick_cases r i (λ (t : Ticked). t.next.state.memory.remembered ≡ Neither) (λ w. absurd (true≢false (sym h ∙ w))) (λ _ _. refl) (λ _ o. p o)
+      tick_cases r i (λ (t : Ticked Regulator). t.next.state.memory.remembered ≡ None) (λ w. absurd (true≢false (sym h ∙ w))) (λ _ _. refl) (λ _ o. p o)
 
   -- "fault, automatic, local drive and out drop it"
-  pub dropped_by_fault : is_fault (supervised_in r c (sensed_in r i c)).latch.fault ≡ true → (tick_of r i).next.state.memory.remembered ≡ Neither
+  pub dropped_by_fault : is_fault (supervised_in r c (sensed_in r i c)).latch.fault ≡ true → (tick_of r i).next.state.memory.remembered ≡ None
   dropped_by_fault e = by_the_rules (λ _. fault_drops c _ (noted_in r c (sensed_in r i c)) e)
 
-  pub dropped_by_automatic : c.automatic ≡ true → (tick_of r i).next.state.memory.remembered ≡ Neither
+  pub dropped_by_automatic : c.automatic ≡ true → (tick_of r i).next.state.memory.remembered ≡ None
   dropped_by_automatic e = by_the_rules (λ _. automatic_drops c _ (noted_in r c (sensed_in r i c)) e)
 
-  pub dropped_by_local_drive : c.local_drive ≡ true → (tick_of r i).next.state.memory.remembered ≡ Neither
+  pub dropped_by_local_drive : c.local_drive ≡ true → (tick_of r i).next.state.memory.remembered ≡ None
   dropped_by_local_drive e = by_the_rules (λ _. local_drops c _ (noted_in r c (sensed_in r i c)) e)
 
-  pub dropped_by_out : is_out r c ≡ true → (tick_of r i).next.state.memory.remembered ≡ Neither
+  pub dropped_by_out : is_out r c ≡ true → (tick_of r i).next.state.memory.remembered ≡ None
   dropped_by_out e = by_the_rules (λ o. absurd (true≢false (sym e ∙ o)))
 
   -- carried out or dropped "on the first tick that starts with the drive at rest", and never kept past it
-  pub never_past_rest : rests_of r.state.drive ≡ true → (tick_of r i).next.state.memory.remembered ≡ Neither
+  pub never_past_rest : rests_of r.state.drive ≡ true → (tick_of r i).next.state.memory.remembered ≡ None
   never_past_rest e = by_the_rules (λ _. rest_leaves_none c _ (noted_in r c (sensed_in r i c)) e)

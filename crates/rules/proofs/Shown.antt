@@ -8,13 +8,13 @@ use lib.Dec.{eqb}
 use lib.ListN.{get_or}
 use Rattle.slots.specs.Slots.{slot, t7}
 use Rattle.busbar_level.specs.declared.Level.{Level}
-use Rattle.busbar_level.specs.declared.Level.TheVariants.{Missing, Low, InBand, High}
+use Rattle.busbar_level.specs.declared.Level.TheVariants.{Low, InBand, High}
 use Rattle.ways.specs.declared.Direction.{Direction}
 use Rattle.ways.specs.declared.Direction.TheVariants.{Raise, Lower}
 use Rattle.drive.specs.declared.Drive.{Drive}
 use Rattle.fault.specs.declared.Fault.{Fault}
-use Rattle.fault.specs.declared.Fault.TheVariants.{NoFault, RunAway, NotStarted, Long, Fast}
-use Rattle.ways.specs.declared.Way.TheVariants.{To}
+use Rattle.std.specs.Prelude.{Option, None, Some}
+use Rattle.fault.specs.declared.Fault.TheVariants.{RunAway, NotStarted, Long, Fast}
 use Rattle.drive_follow.specs.Follow.{rests_of}
 use Rattle.fault.specs.Latches.{is_fault, field_of}
 use Rattle.drive_shown.specs.Shown.{on_of}
@@ -37,14 +37,14 @@ use Rattle.sensing.specs.declared.Sensed.{Sensed}
 use Rattle.rules.specs.declared.Ticked.{Ticked}
 use Rattle.claim.specs.Claim.{command_field, block_field, side_field}
 use Rattle.rules.specs.Acting.{acted_of}
-use Rattle.rules.specs.Ticks.{memory_in, sensed_in, end_of, ran_of}
+use Rattle.rules.specs.Ticks.{refusal_in, outputs_in, memory_in, sensed_in, end_of, ran_of}
 use Rattle.rules.proofs.Values.{supervised_in, blocked_in}
 
 -- ---- the values of the rules on a tick
 
 -- output n
-abbrev pub given : ℕ → Ticked → ℕ
-given n t = get_or t.reply.outputs n 0
+abbrev pub given : ℕ → Ticked Regulator → ℕ
+given n t = get_or (outputs_in t.reply) n 0
 
 abbrev pub contacts_at : Input → Contacts
 contacts_at i = contacts_of i.contacts
@@ -67,14 +67,14 @@ decided_at r i = decided_of r.settings (situation_at r i)
 abbrev pub drive_at_lem : Regulator → Input → Drive
 drive_at_lem r i = ask_of (supervised_at r i).drive (contacts_at i).automatic (decided_at r i).command
 
-abbrev pub live_at : Regulator → Input → Ticked
+abbrev pub live_at : Regulator → Input → Ticked Regulator
 live_at r i = ran_of r i (contacts_at i)
 
 -- the command that is on, to a side
 abbrev pub on_to : Direction → Drive → ℕ → Bool
 on_to d e n = is_to d (on_of e n)
 
-abbrev pub level_to : Direction → Level → Bool
+abbrev pub level_to : Direction → Option Level → Bool
 level_to Raise l = is_low l
 level_to Lower l = is_high l
 
@@ -91,7 +91,7 @@ module _ (r : Regulator) (i : Input) where
   unfolding ran_of end_of
   live_settings = refl
 
-  pub live_accepted : (live_at r i).reply.refusal ≡ 0
+  pub live_accepted : (refusal_in (live_at r i).reply) ≡ 0
   unfolding ran_of end_of
   live_accepted = refl
 
@@ -153,40 +153,40 @@ flag_rests true = refl
 flag_rests false = refl
 
 -- the four fields of faults are all 0 exactly without a fault
-pub no_fault : (f : Fault) → showing.bit_of (eqb (field_of f) 19) ≡ 0 → showing.bit_of (eqb (field_of f) 20) ≡ 0
+pub no_fault : (f : Option Fault) → showing.bit_of (eqb (field_of f) 19) ≡ 0 → showing.bit_of (eqb (field_of f) 20) ≡ 0
     → showing.bit_of (eqb (field_of f) 21) ≡ 0 → showing.bit_of (eqb (field_of f) 22) ≡ 0 → is_fault f ≡ false
-no_fault NoFault a b c d = refl
-no_fault RunAway a b c d = absurd (omega arith)
-no_fault NotStarted a b c d = absurd (omega arith)
-no_fault Long a b c d = absurd (omega arith)
-no_fault Fast a b c d = absurd (omega arith)
+no_fault None a b c d = refl
+no_fault (Some RunAway) a b c d = absurd (omega arith)
+no_fault (Some NotStarted) a b c d = absurd (omega arith)
+no_fault (Some Long) a b c d = absurd (omega arith)
+no_fault (Some Fast) a b c d = absurd (omega arith)
 
-pub no_field : (f : Fault) → is_fault f ≡ false
+pub no_field : (f : Option Fault) → is_fault f ≡ false
     → (showing.bit_of (eqb (field_of f) 19) ≡ 0) × (showing.bit_of (eqb (field_of f) 20) ≡ 0) × (showing.bit_of (eqb (field_of f) 21) ≡ 0) × (showing.bit_of (eqb (field_of f) 22) ≡ 0)
-no_field NoFault e = (refl, refl, refl, refl)
-no_field RunAway e = absurd (let z : ◌≡◌ {A = Bool} true false = e in let y : ◌≡◌ {A = ℕ} 0 1 = cc in omega arith)
-no_field NotStarted e = absurd (let z : ◌≡◌ {A = Bool} true false = e in let y : ◌≡◌ {A = ℕ} 0 1 = cc in omega arith)
-no_field Long e = absurd (let z : ◌≡◌ {A = Bool} true false = e in let y : ◌≡◌ {A = ℕ} 0 1 = cc in omega arith)
-no_field Fast e = absurd (let z : ◌≡◌ {A = Bool} true false = e in let y : ◌≡◌ {A = ℕ} 0 1 = cc in omega arith)
+no_field None e = (refl, refl, refl, refl)
+no_field (Some RunAway) e = absurd (let z : ◌≡◌ {A = Bool} true false = e in let y : ◌≡◌ {A = ℕ} 0 1 = cc in omega arith)
+no_field (Some NotStarted) e = absurd (let z : ◌≡◌ {A = Bool} true false = e in let y : ◌≡◌ {A = ℕ} 0 1 = cc in omega arith)
+no_field (Some Long) e = absurd (let z : ◌≡◌ {A = Bool} true false = e in let y : ◌≡◌ {A = ℕ} 0 1 = cc in omega arith)
+no_field (Some Fast) e = absurd (let z : ◌≡◌ {A = Bool} true false = e in let y : ◌≡◌ {A = ℕ} 0 1 = cc in omega arith)
 
-pub level_side : (d : Direction) (l : Level) → level_to d l ≡ true → side_of l ≡ To d
+pub level_side : (d : Direction) (l : Option Level) → level_to d l ≡ true → side_of l ≡ Some d
 unfolding side_of
-level_side Raise Low e = refl
-level_side Raise Missing e = let z : ◌≡◌ {A = Bool} false true = e in cc
-level_side Raise InBand e = let z : ◌≡◌ {A = Bool} false true = e in cc
-level_side Raise High e = let z : ◌≡◌ {A = Bool} false true = e in cc
-level_side Lower High e = refl
-level_side Lower Missing e = let z : ◌≡◌ {A = Bool} false true = e in cc
-level_side Lower InBand e = let z : ◌≡◌ {A = Bool} false true = e in cc
-level_side Lower Low e = let z : ◌≡◌ {A = Bool} false true = e in cc
+level_side Raise (Some Low) e = refl
+level_side Raise None e = let z : ◌≡◌ {A = Bool} false true = e in cc
+level_side Raise (Some InBand) e = let z : ◌≡◌ {A = Bool} false true = e in cc
+level_side Raise (Some High) e = let z : ◌≡◌ {A = Bool} false true = e in cc
+level_side Lower (Some High) e = refl
+level_side Lower None e = let z : ◌≡◌ {A = Bool} false true = e in cc
+level_side Lower (Some InBand) e = let z : ◌≡◌ {A = Bool} false true = e in cc
+level_side Lower (Some Low) e = let z : ◌≡◌ {A = Bool} false true = e in cc
 
-pub side_level : (d : Direction) (l : Level) → side_of l ≡ To d → level_to d l ≡ true
+pub side_level : (d : Direction) (l : Option Level) → side_of l ≡ Some d → level_to d l ≡ true
 unfolding side_of
-side_level Raise Low e = refl
-side_level Raise Missing e = let z : ◌≡◌ {A = ℕ} 0 1 = cc in absurd (omega arith)
-side_level Raise InBand e = let z : ◌≡◌ {A = ℕ} 0 1 = cc in absurd (omega arith)
-side_level Raise High e = let z : ◌≡◌ {A = ℕ} 0 1 = cc in absurd (omega arith)
-side_level Lower High e = refl
-side_level Lower Missing e = let z : ◌≡◌ {A = ℕ} 0 1 = cc in absurd (omega arith)
-side_level Lower InBand e = let z : ◌≡◌ {A = ℕ} 0 1 = cc in absurd (omega arith)
-side_level Lower Low e = let z : ◌≡◌ {A = ℕ} 0 1 = cc in absurd (omega arith)
+side_level Raise (Some Low) e = refl
+side_level Raise None e = let z : ◌≡◌ {A = ℕ} 0 1 = cc in absurd (omega arith)
+side_level Raise (Some InBand) e = let z : ◌≡◌ {A = ℕ} 0 1 = cc in absurd (omega arith)
+side_level Raise (Some High) e = let z : ◌≡◌ {A = ℕ} 0 1 = cc in absurd (omega arith)
+side_level Lower (Some High) e = refl
+side_level Lower None e = let z : ◌≡◌ {A = ℕ} 0 1 = cc in absurd (omega arith)
+side_level Lower (Some InBand) e = let z : ◌≡◌ {A = ℕ} 0 1 = cc in absurd (omega arith)
+side_level Lower (Some Low) e = let z : ◌≡◌ {A = ℕ} 0 1 = cc in absurd (omega arith)

@@ -10,7 +10,7 @@ use Rattle.common.proofs.Cases.{yes, no, chosen}
 use Rattle.slots.specs.Slots.{slot, in_service, t7}
 use Rattle.ways.specs.declared.Direction.{Direction}
 use Rattle.ways.specs.declared.Direction.TheVariants.{Raise, Lower}
-use Rattle.ways.specs.declared.Way.TheVariants.{To}
+use Rattle.std.specs.Prelude.{Some}
 use Rattle.acting_judging.specs.declared.Finding.{Finding}
 use Rattle.drive_follow.specs.declared.Followed.{Followed}
 use Rattle.fault.specs.declared.Latch.{Latch}
@@ -32,7 +32,7 @@ use Rattle.busbar_level.specs.Levels.{side_of}
 use Rattle.acting_supervising.specs.Supervising.{cleared_of, followed_of, supervised_of}
 use Rattle.rules.specs.declared.Ticked.{Ticked}
 use Rattle.rules.specs.Acting.{finding_of}
-use Rattle.rules.specs.Ticks.{is_out, out_of, refused_of, tick_of}
+use Rattle.rules.specs.Ticks.{refusal_in, outputs_in, is_out, out_of, refused_of, tick_of}
 use Rattle.claim.specs.Claim.{Tick, rest_after, block_field, side_field, Lasting}
 use Rattle.rules.specs.Lists.{seen}
 use Rattle.rules.proofs.Next.{tick_lasting}
@@ -47,7 +47,7 @@ abbrev pub next_at : Regulator → Input → Regulator
 next_at r i = (tick_of r i).next
 
 abbrev pub rest_at : Regulator → Input → Bool
-rest_at r i = rest_after (tick_of r i).reply.outputs
+rest_at r i = rest_after (outputs_in (tick_of r i).reply)
 
 -- the wait to a side
 abbrev pub wait_to : Direction → Regulator → ℕ
@@ -61,7 +61,7 @@ Linked rest r = within_of r ≡ true → rest ≡ rests_of r.state.drive
 
 module _ (r : Regulator) (i : Input) where
   -- what holds of a tick in each of its three cases
-  pub tick_cases : (P : Ticked → Type 0) → (within_of r ≡ false → P (refused_of r)) → (within_of r ≡ true → is_out r (contacts_at i) ≡ true → P (out_of r))
+  pub tick_cases : (P : Ticked Regulator → Type 0) → (within_of r ≡ false → P (refused_of r)) → (within_of r ≡ true → is_out r (contacts_at i) ≡ true → P (out_of r))
       → (within_of r ≡ true → is_out r (contacts_at i) ≡ false → P (live_at r i)) → P (tick_of r i)
   unfolding tick_of
   tick_cases P refused out live =
@@ -75,20 +75,20 @@ module _ (r : Regulator) (i : Input) where
   unfolding tick_of
   out_is h o = sym (yes _ _ _ _ h (yes _ _ _ _ o refl))
 
-  pub accepted_is : (tick_of r i).reply.refusal ≡ choose (within_of r) 0 4
+  pub accepted_is : (refusal_in (tick_of r i).reply) ≡ choose (within_of r) 0 4
   unfolding refused_of out_of
   accepted_is =
-      tick_cases (λ (t : Ticked). t.reply.refusal ≡ choose (within_of r) 0 4) (λ h. no _ _ _ _ h refl) (λ h o. yes _ _ _ _ h refl)
+      tick_cases (λ (t : Ticked Regulator). (refusal_in t.reply) ≡ choose (within_of r) 0 4) (λ h. no _ _ _ _ h refl) (λ h o. yes _ _ _ _ h refl)
       (λ h o. yes _ _ _ _ h (live_accepted r i))
 
-  pub accepted_within : (tick_of r i).reply.refusal ≡ 0 → within_of r ≡ true
+  pub accepted_within : (refusal_in (tick_of r i).reply) ≡ 0 → within_of r ≡ true
   unfolding refused_of
   accepted_within =
-      tick_cases (λ (t : Ticked). t.reply.refusal ≡ 0 → within_of r ≡ true) (λ h e. absurd (omega arith)) (λ h o e. h) (λ h o e. h)
+      tick_cases (λ (t : Ticked Regulator). (refusal_in t.reply) ≡ 0 → within_of r ≡ true) (λ h e. absurd (omega arith)) (λ h o e. h) (λ h o e. h)
 
   pub settings_kept : (next_at r i).settings ≡ r.settings
   unfolding refused_of out_of fresh_of
-  settings_kept = tick_cases (λ (t : Ticked). t.next.settings ≡ r.settings) (λ h. refl) (λ h o. refl) (λ h o. live_settings r i)
+  settings_kept = tick_cases (λ (t : Ticked Regulator). t.next.settings ≡ r.settings) (λ h. refl) (λ h o. refl) (λ h o. live_settings r i)
 
   pub within_kept : within_of (next_at r i) ≡ within_of r
   within_kept = tick_lasting r i
@@ -96,13 +96,13 @@ module _ (r : Regulator) (i : Input) where
   pub linked_kept : within_of r ≡ true → rest_at r i ≡ rests_of (next_at r i).state.drive
   unfolding out_of fresh_of
   linked_kept w =
-      tick_cases (λ (t : Ticked). rest_after t.reply.outputs ≡ rests_of t.next.state.drive) (λ h. absurd (true≢false (sym w ∙ h))) (λ h o. refl)
+      tick_cases (λ (t : Ticked Regulator). rest_after (outputs_in t.reply) ≡ rests_of t.next.state.drive) (λ h. absurd (true≢false (sym w ∙ h))) (λ h o. refl)
       (λ h o. ap (λ (n : ℕ). eqb n 0) (live_moving r i) ∙ flag_rests (rests_of (drive_at_lem r i)) ∙ ap rests_of (sym (live_drive r i)))
 
   pub never_both_lem : given 0 (tick_of r i) ≡ 1 → given 1 (tick_of r i) ≡ 1 → ⊥
   unfolding refused_of out_of
   never_both_lem =
-      tick_cases (λ (t : Ticked). given 0 t ≡ 1 → given 1 t ≡ 1 → ⊥) (λ h p q. omega arith) (λ h o p q. omega arith)
+      tick_cases (λ (t : Ticked Regulator). given 0 t ≡ 1 → given 1 t ≡ 1 → ⊥) (λ h p q. omega arith) (λ h o p q. omega arith)
       (λ h o p q.
       one_way (on_of (drive_at_lem r i) (slot r.settings t7)) (flag_on _ (sym (live_on r i Raise) ∙ p)) (flag_on _ (sym (live_on r i Lower) ∙ q)))
 
@@ -145,7 +145,7 @@ pub record Live (d : Direction) (r : Regulator) (i : Input) : Type 0 where
   pub within : within_of r ≡ true
   pub is : tick_of r i ≡ live_at r i
   pub automatic : (contacts_at i).automatic ≡ true
-  pub side : side_of (sensed_at r i).assessed.level ≡ To d
+  pub side : side_of (sensed_at r i).assessed.level ≡ Some d
   pub mode : (blocks_at r i).automatic ≡ false
   pub direction : opposed_of (blocks_at r i) d ≡ false
   pub fault : is_fault (supervised_at r i).latch.fault ≡ false

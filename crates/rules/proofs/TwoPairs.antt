@@ -9,8 +9,8 @@ use Rattle.common.specs.Choice.{choose}
 use Rattle.common.proofs.Joined.{split, and_four, and_false}
 use Rattle.fault.specs.declared.Fault.{Fault}
 use Rattle.fault.specs.Latches.{is_fault}
-use Rattle.ways.specs.declared.Way.{Way}
-use Rattle.ways.specs.declared.Way.TheVariants.{Neither}
+use Rattle.std.specs.Prelude.{Option, None}
+use Rattle.ways.specs.declared.Direction.{Direction}
 use Rattle.input.specs.declared.Contacts.{Contacts}
 use Rattle.input.specs.declared.Input.{Input}
 use Rattle.input.specs.Brought.{contacts_of, readings_of}
@@ -41,7 +41,7 @@ use Rattle.rules.proofs.Values.{supervised_in, blocked_in}
 use Rattle.rules.proofs.Steps.{live_is, out_is}
 
 -- the record with these keys of the previous tick, and this press remembered
-abbrev pub recalling : Keys → Way → Regulator → Regulator
+abbrev pub recalling : Keys → Option Direction → Regulator → Regulator
 recalling k press r =
     regulator_of r.settings
     (record {
@@ -72,7 +72,7 @@ with_contacts n i =
       sensor = i.sensor;
     }
 
-module _ (r : Regulator) (i : Input) (c : Contacts) (n : ℕ) (now before : Keys) (press : Way) where
+module _ (r : Regulator) (i : Input) (c : Contacts) (n : ℕ) (now before : Keys) (press : Option Direction) where
   abbrev r' : Regulator
   r' = recalling before press r
 
@@ -111,16 +111,16 @@ module _ (r : Regulator) (i : Input) (c : Contacts) (n : ℕ) (now before : Keys
 -- ---- the other pair
 
 -- the same reply, and the same next record but for the keys
-abbrev pub Alike : Ticked → Ticked → Type 0
+abbrev pub Alike : Ticked Regulator → Ticked Regulator → Type 0
 Alike t u = (t.reply ≡ u.reply) × ((k : Keys) → rekeyed k t.next ≡ rekeyed k u.next)
 
-alike_chosen : (b : Bool) (t u v w : Ticked) → Alike t u → Alike v w → Alike (choose b t v) (choose b u w)
+alike_chosen : (b : Bool) (t u v w : Ticked Regulator) → Alike t u → Alike v w → Alike (choose b t v) (choose b u w)
 unfolding choose
 alike_chosen true t u v w p q = p
 alike_chosen false t u v w p q = q
 
 -- a tick by its contacts
-abbrev tick_by_lem : Regulator → Input → Contacts → Ticked
+abbrev tick_by_lem : Regulator → Input → Contacts → Ticked Regulator
 tick_by_lem r i c = choose (within_of r) (choose (is_out r c) (out_of r) (ran_of r i c)) (refused_of r)
 
 tick_by : (r : Regulator) (i : Input) → tick_of r i ≡ tick_by_lem r i (contacts_of i.contacts)
@@ -145,7 +145,7 @@ module _ (r : Regulator) (i : Input) (b b' : Buttons) where
   by_contacts n =
       let ran = ran_same r i c n now before r.state.memory.remembered (other_unheard c.keys r.state.memory.keys r.state.memory.remembered b b') in
       alike_chosen (within_of r) _ _ _ _
-      (alike_chosen (is_out r c) _ _ _ _ (refl, (λ k. refl)) (ap (λ (t : Ticked). t.reply) ran, (λ k. ap (λ (t : Ticked). rekeyed k t.next) ran)))
+      (alike_chosen (is_out r c) _ _ _ _ (refl, (λ k. refl)) (ap (λ (t : Ticked Regulator). t.reply) ran, (λ k. ap (λ (t : Ticked Regulator). rekeyed k t.next) ran)))
       (refl, (λ k. refl))
 
   -- a button of the other pair, held or pressed, neither commands nor stops a command of the mode's pair: whatever its bits are on this
@@ -160,7 +160,7 @@ module _ (r : Regulator) (i : Input) (b b' : Buttons) where
 
 -- ---- the mode, and what each pair remembers
 
-no_press : (f : Fault) → press_within f Neither ≡ true
+no_press : (f : Option Fault) → press_within f None ≡ true
 unfolding press_within
 no_press f = rw (and_false (is_fault f)) refl
 
@@ -170,7 +170,7 @@ module _ (r : Regulator) (i : Input) (w : within_of r ≡ true) where
 
   -- a record that remembers no press, and is as it was otherwise
   abbrev forgetful : Regulator
-  forgetful = recalling r.state.memory.keys Neither r
+  forgetful = recalling r.state.memory.keys None r
 
   forgetful_within : within_of forgetful ≡ true
   unfolding within_of
@@ -186,7 +186,7 @@ module _ (r : Regulator) (i : Input) (w : within_of r ≡ true) where
   pub dropped_by_change : changed_of cᵢ.keys r.state.memory.keys ≡ true → tick_of r i ≡ tick_of forgetful i
   unfolding ran_of end_of acted_of regulated_of is_out out_of
   dropped_by_change e =
-      let ran = ran_same r i cᵢ i.contacts cᵢ.keys r.state.memory.keys Neither (sym (change_forgets cᵢ.keys r.state.memory.keys r.state.memory.remembered e)) in
+      let ran = ran_same r i cᵢ i.contacts cᵢ.keys r.state.memory.keys None (sym (change_forgets cᵢ.keys r.state.memory.keys r.state.memory.remembered e)) in
       ⊎_elim (λ o. out_is r i w o ∙ sym (out_is forgetful i forgetful_within o))
       (λ o. live_is r i w o ∙ (sym ran ∙ sym (live_is forgetful i forgetful_within o)))
       (split (is_out r cᵢ))
@@ -194,12 +194,12 @@ module _ (r : Regulator) (i : Input) (w : within_of r ≡ true) where
   -- "each pair remembers its own previous tick in both modes"
   pub both_remembered : is_out r cᵢ ≡ false → (tick_of r i).next.state.memory.keys ≡ cᵢ.keys
   unfolding ran_of end_of acted_of regulated_of
-  both_remembered o = ap (λ (t : Ticked). t.next.state.memory.keys) (live_is r i w o)
+  both_remembered o = ap (λ (t : Ticked Regulator). t.next.state.memory.keys) (live_is r i w o)
 
   -- "pressed when fresh"
   pub pressed_when_out : is_out r cᵢ ≡ true → (tick_of r i).next.state.memory.keys ≡ local_keys true
   unfolding out_of fresh_of
-  pressed_when_out o = ap (λ (t : Ticked). t.next.state.memory.keys) (out_is r i w o)
+  pressed_when_out o = ap (λ (t : Ticked Regulator). t.next.state.memory.keys) (out_is r i w o)
 
   -- so a button that is held through a change of mode is no press of its pair: the tick begins no command, and leaves the drive as rule 7
   -- did
@@ -209,4 +209,4 @@ module _ (r : Regulator) (i : Input) (w : within_of r ≡ true) where
       → (tick_of r i).next.state.drive ≡ (supervised_in r cᵢ (sensed_in r i cᵢ)).drive
   unfolding ran_of end_of acted_of
   held_begins_none o a e p q =
-      ap (λ (t : Ticked). t.next.state.drive) (live_is r i w o) ∙ held_begins_nothing cᵢ (memory_in r) a e p q _ _ _ _ _ _
+      ap (λ (t : Ticked Regulator). t.next.state.drive) (live_is r i w o) ∙ held_begins_nothing cᵢ (memory_in r) a e p q _ _ _ _ _ _

@@ -20,18 +20,17 @@ use Rattle.ways.specs.declared.Direction.{Direction}
 use Rattle.ways.specs.declared.Direction.TheVariants.{Raise, Lower}
 use Rattle.drive.specs.declared.Drive.{Drive}
 use Rattle.drive.specs.declared.Drive.TheVariants.{Resting, Asked}
-use Rattle.ways.specs.declared.Way.{Way}
-use Rattle.ways.specs.declared.Way.TheVariants.{Neither, To}
+use Rattle.std.specs.Prelude.{Option, None, Some}
 use Rattle.drive_follow.specs.declared.Followed.{Followed}
 use Rattle.drive_follow.specs.Follow.{rests_of}
 use Rattle.drive_shown.specs.Shown.{on_of}
 use Rattle.ways.specs.Ways.{is_to}
-use Rattle.ways.proofs.Cases.{is_to_self, is_to_is, is_to_neither}
+use Rattle.ways.proofs.Cases.{is_to_self, is_to_is, is_to_none}
 use Rattle.acting_supervising.proofs.EachKind.{rest_silent, rest_free, rest_needs_free}
 use Rattle.input.specs.declared.Input.{Input}
+use Rattle.command.specs.Idling.{waits_for}
 use Rattle.command.specs.declared.Decided.{Decided}
 use Rattle.command.specs.declared.Wait.{Wait}
-use Rattle.command.specs.declared.Wait.TheVariants.{Idle, For}
 use Rattle.command_automatic.specs.Automatic.{ticks_of, waited_of, delay_of, wait_on_of}
 use Rattle.command_deciding.proofs.Sound.{Waits, decided_sound, decided_waits}
 use Rattle.record.specs.declared.Regulator.{Regulator}
@@ -50,19 +49,19 @@ use Rattle.rules.proofs.Steps.{tick_at, next_at, rest_at, wait_to, Linked, live_
 -- ---- a command that begins
 
 -- from rest, a command is on only if one was decided
-on_decided : (d : Direction) (r : Regulator) (i : Input) (n : ℕ) → rests_of r.state.drive ≡ true → (w : Way)
-    → on_to d (ask_of (supervised_at r i).drive (contacts_at i).automatic w) n ≡ true → w ≡ To d
+on_decided : (d : Direction) (r : Regulator) (i : Input) (n : ℕ) → rests_of r.state.drive ≡ true → (w : Option Direction)
+    → on_to d (ask_of (supervised_at r i).drive (contacts_at i).automatic w) n ≡ true → w ≡ Some d
 unfolding ask_of on_of
-on_decided d r i n e Neither p =
+on_decided d r i n e None p =
     absurd
     (false≢true
-    (sym (is_to_neither d) ∙ ap (is_to d) (sym (rest_silent r.settings (contacts_at i) (finding_at r i) r.state.drive (cleared_at r i) r.state.wear.last n e) ∙ ap (λ (g : Drive). on_of g n) (sym (followed_is r i))) ∙ p))
-on_decided d r i n e (To f) p = ap To (is_to_is d f p)
+    (sym (is_to_none d) ∙ ap (is_to d) (sym (rest_silent r.settings (contacts_at i) (finding_at r i) r.state.drive (cleared_at r i) r.state.wear.last n e) ∙ ap (λ (g : Drive). on_of g n) (sym (followed_is r i))) ∙ p))
+on_decided d r i n e (Some f) p = ap Some (is_to_is d f p)
 
 pub record Begun (d : Direction) (r : Regulator) (i : Input) : Type 0 where
   pub within : within_of r ≡ true
   pub is : tick_of r i ≡ live_at r i
-  pub command : (decided_at r i).command ≡ To d
+  pub command : (decided_at r i).command ≡ Some d
 
 nothing_out : (d : Direction) (r : Regulator) → given (command_field d) (out_of r) ≡ 0
 unfolding out_of
@@ -92,7 +91,7 @@ module _ (d : Direction) (rest : Bool) (r : Regulator) (i : Input) (k : Linked r
   pub begun_asked : (next_at r i).state.drive ≡ Asked d 0 (contacts_at i).automatic
   unfolding ask_of
   begun_asked =
-      ap (λ (t : Ticked). t.next.state.drive) begun.is ∙ live_drive r i ∙ ap (ask_of (supervised_at r i).drive (contacts_at i).automatic) begun.command
+      ap (λ (t : Ticked Regulator). t.next.state.drive) begun.is ∙ live_drive r i ∙ ap (ask_of (supervised_at r i).drive (contacts_at i).automatic) begun.command
 
   pub begun_moves : rest_at r i ≡ false
   begun_moves = linked_kept r i begun.within ∙ ap rests_of begun_asked
@@ -116,7 +115,7 @@ pub force_is : (d : Direction) (rest : Bool) (r : Regulator) (i : Input) → del
 force_is Raise rest r i = refl
 force_is Lower rest r i = refl
 
-delay_most : (s : List ℕ) (d : Direction) (far : Bool) (w : Way) → delay_of s d far w ≤ longest s
+delay_most : (s : List ℕ) (d : Direction) (far : Bool) (w : Option Direction) → delay_of s d far w ≤ longest s
 unfolding delay_of
 delay_most s d far w =
     chosen (λ n. n ≤ longest s) _ _ _ (λ p. omega arith) (λ p. chosen (λ n. n ≤ longest s) _ _ _ (λ q. omega arith) (λ q. omega arith))
@@ -124,7 +123,7 @@ delay_most s d far w =
 pub force_most : (d : Direction) (r : Regulator) (i : Input) → delay_in d r i ≤ longest r.settings
 force_most d r i = delay_most r.settings d _ _
 
-delay_least : (s : List ℕ) → passes_of s ≡ true → (d : Direction) (far : Bool) (w : Way) → 20 ≤ delay_of s d far w
+delay_least : (s : List ℕ) → passes_of s ≡ true → (d : Direction) (far : Bool) (w : Option Direction) → 20 ≤ delay_of s d far w
 unfolding delay_of
 delay_least s e d far w =
     chosen (λ n. 20 ≤ n) _ _ _ (λ p. (t3_range s e).0) (λ p. chosen (λ n. 20 ≤ n) _ _ _ (λ q. (t2_range s e).0) (λ q. (t1_range s e).0))
@@ -135,19 +134,23 @@ force_least d r i h = delay_least r.settings (pass r h) d _ _
 -- ---- a waiting tick
 
 -- the wait that a record holds to a side, as a list's opening has it, is the one that rule 9 goes by
-held_is : (d : Direction) (w : Wait) → waited_of d w ≡ held_for d w
+held_to : (d e : Direction) (n : ℕ) → waited_of d (waits_for e n) ≡ held_for d (waits_for e n)
 unfolding waited_of ticks_of choose
-held_is d Idle = refl
-held_is Raise (For Raise n) = refl
-held_is Raise (For Lower n) = refl
-held_is Lower (For Raise n) = refl
-held_is Lower (For Lower n) = refl
+held_to Raise Raise n = refl
+held_to Raise Lower n = refl
+held_to Lower Raise n = refl
+held_to Lower Lower n = refl
+
+held_is : (d : Direction) (w : Option Wait) → waited_of d w ≡ held_for d w
+unfolding waited_of ticks_of choose
+held_is d None = refl
+held_is d (Some w) = held_to d w.direction w.ticks
 
 pub no_wait_is : (d : Direction) (r : Regulator) → wait_for d (opening r) ≡ 0 → wait_to d r ≡ 0
 no_wait_is Raise r h = held_is Raise r.state.memory.wait ∙ h
 no_wait_is Lower r h = held_is Lower r.state.memory.wait ∙ h
 
-waited_self : (d : Direction) (n : ℕ) → waited_of d (For d n) ≡ n
+waited_self : (d : Direction) (n : ℕ) → waited_of d (waits_for d n) ≡ n
 unfolding waited_of ticks_of
 waited_self d n = sym (yes _ _ _ _ (is_to_self d) refl)
 
@@ -184,7 +187,7 @@ module _ (d : Direction) (rest : Bool) (r : Regulator) (i : Input) (k : Linked r
   unfolding situation_of
   decision = decided_waits r.settings (situation_at r i) d resting l.automatic l.side l.mode l.direction
 
-  comes : delay_in d r i ≤ wait_to d r + 1 → (decided_at r i).command ≡ To d → Comes d rest r i
+  comes : delay_in d r i ≤ wait_to d r + 1 → (decided_at r i).command ≡ Some d → Comes d rest r i
   unfolding ask_of on_of
   comes h c =
       record {
@@ -194,21 +197,21 @@ module _ (d : Direction) (rest : Bool) (r : Regulator) (i : Input) (k : Linked r
               from_rest = w.rest;
               on =
                   ap (given (command_field d)) l.is ∙ live_on r i d
-                  ∙ ap showing.bit_of (ap (λ (v : Way). on_to d (ask_of (supervised_at r i).drive (contacts_at i).automatic v) (slot r.settings t7)) c ∙ is_to_self d);
+                  ∙ ap showing.bit_of (ap (λ (v : Option Direction). on_to d (ask_of (supervised_at r i).drive (contacts_at i).automatic v) (slot r.settings t7)) c ∙ is_to_self d);
             };
         due = h;
       }
 
-  goes : wait_to d r + 1 < delay_in d r i → (decided_at r i).command ≡ Neither → (decided_at r i).wait ≡ For d (wait_to d r + 1) → Goes d rest r i
+  goes : wait_to d r + 1 < delay_in d r i → (decided_at r i).command ≡ None → (decided_at r i).wait ≡ waits_for d (wait_to d r + 1) → Goes d rest r i
   unfolding ask_of
   goes h c q =
       record {
-        none = λ b. let z : To d ≡ Neither = sym (begun d rest r i k b).command ∙ c in let y : ◌≡◌ {A = ℕ} 0 1 = cc in omega arith;
+        none = λ b. let z : Some d ≡ None = sym (begun d rest r i k b).command ∙ c in let y : ◌≡◌ {A = ℕ} 0 1 = cc in omega arith;
         early = h;
-        more = ap (λ (t : Ticked). wait_to d t.next) l.is ∙ ap (waited_of d) (live_wait r i ∙ q) ∙ waited_self d (wait_to d r + 1);
+        more = ap (λ (t : Ticked Regulator). wait_to d t.next) l.is ∙ ap (waited_of d) (live_wait r i ∙ q) ∙ waited_self d (wait_to d r + 1);
         rests =
             linked_kept r i l.within
-            ∙ ap rests_of (ap (λ (t : Ticked). t.next.state.drive) l.is ∙ live_drive r i ∙ ap (ask_of (supervised_at r i).drive (contacts_at i).automatic) c ∙ still);
+            ∙ ap rests_of (ap (λ (t : Ticked Regulator). t.next.state.drive) l.is ∙ live_drive r i ∙ ap (ask_of (supervised_at r i).drive (contacts_at i).automatic) c ∙ still);
       }
 
   pub wait_step : Comes d rest r i ⊎ Goes d rest r i
@@ -264,14 +267,14 @@ module _ (d : Direction) (rest : Bool) (r : Regulator) (i : Input) (k : Linked r
             b.1 b.0 now;
       }
 
-  left_at : (w : Wait) → (decided_at r i).wait ≡ w → Waiting d (tick_at rest r i) ⊎ (waited_of d w ≡ 0)
+  left_at : (w : Option Wait) → (decided_at r i).wait ≡ w → Waiting d (tick_at rest r i) ⊎ (waited_of d w ≡ 0)
   unfolding waited_of ticks_of
-  left_at Idle q = inr refl
-  left_at (For e n) q =
+  left_at None q = inr refl
+  left_at (Some w) q =
       ⊎_elim
-      (λ p. inl (waits_at n ((decided_sound r.settings (situation_at r i)).waits d n (q ∙ ap (λ (f : Direction). For f n) (is_to_is d e p)))))
+      (λ p. inl (waits_at w.ticks ((decided_sound r.settings (situation_at r i)).waits d w.ticks (q ∙ ap (λ (f : Direction). waits_for f w.ticks) (is_to_is d w.direction p)))))
       (λ p. inr (sym (no _ _ _ _ p refl)))
-      (split (is_to d (To e)))
+      (split (is_to d (Some w.direction)))
 
 fresh_waits : (d : Direction) (s : List ℕ) → waited_of d (fresh_of s).state.memory.wait ≡ 0
 unfolding waited_of fresh_of
@@ -281,8 +284,8 @@ pub wait_or_zero : (d : Direction) (rest : Bool) (r : Regulator) (i : Input) →
     → Waiting d (tick_at rest r i) ⊎ (wait_to d (next_at r i) ≡ 0)
 unfolding out_of
 wait_or_zero d rest r i k h =
-    ⊎_elim (λ o. inr (ap (λ (t : Ticked). wait_to d t.next) (out_is r i h o) ∙ fresh_waits d r.settings))
+    ⊎_elim (λ o. inr (ap (λ (t : Ticked Regulator). wait_to d t.next) (out_is r i h o) ∙ fresh_waits d r.settings))
     (λ o.
-    ⊎_elim (λ w. inl w) (λ z. inr (ap (λ (t : Ticked). wait_to d t.next) (live_is r i h o) ∙ ap (waited_of d) (live_wait r i) ∙ z))
+    ⊎_elim (λ w. inl w) (λ z. inr (ap (λ (t : Ticked Regulator). wait_to d t.next) (live_is r i h o) ∙ ap (waited_of d) (live_wait r i) ∙ z))
     (left_at d rest r i k h o (decided_at r i).wait refl))
     (split (is_out r (contacts_at i)))

@@ -7,7 +7,7 @@ use Prim.Native.Nat.{ℕ}
 use lib.Ieee.{of_bits}
 use lib.ListN.{replicate, set}
 use Rattle.slots.specs.Slots.{wear_count}
-use Rattle.claim.specs.Claim.{Tick, Opening, All, Some, Begins, Command, Serves, output, Kept}
+use Rattle.claim.specs.Claim.{Tick, Opening, All, Some as Somewhere, Begins, Command, Serves, output, Kept}
 use Rattle.claim.specs.Scenes.{varied_by, varied_sheet, held_sheet, brought}
 use Rattle.claim.proofs.Ticks.{open_to, closed_to, commands, held_to, reset_contact}
 use Rattle.claim.proofs.Worked as worked
@@ -18,8 +18,9 @@ use Rattle.drive.specs.declared.Drive.TheVariants.{Resting, Asked}
 use Rattle.ways.specs.declared.Direction.{Direction}
 use Rattle.ways.specs.declared.Direction.TheVariants.{Raise, Lower}
 use Rattle.input.specs.declared.Input.{Input}
+use Rattle.std.specs.Prelude.{Option, None, Some}
+use Rattle.command.specs.Idling.{waits_for}
 use Rattle.command.specs.declared.Wait.{Wait}
-use Rattle.command.specs.declared.Wait.TheVariants.{Idle, For}
 use Rattle.record.specs.declared.Regulator.{Regulator}
 use Rattle.record.specs.Whole.{regulator_of}
 use Rattle.record_starting.specs.Starting.{fresh_of}
@@ -69,7 +70,7 @@ abbrev long_held : List Input
 long_held = replicate 49 (off_closed Raise) ++ replicate 25 low_reset
 
 -- the fresh record of a sheet, but for its drive, its wait and its operations
-abbrev fresh_but : List ℕ → Drive → Wait → ℕ → Regulator
+abbrev fresh_but : List ℕ → Drive → Option Wait → ℕ → Regulator
 fresh_but sheet drive wait operations =
     let m = (fresh_of sheet).state in
     regulator_of sheet
@@ -89,14 +90,14 @@ abbrev fresh_held : Regulator
 fresh_held = fresh_of held_sheet
 
 abbrev waiting : Regulator
-waiting = fresh_but varied_sheet Resting (For Raise 10) 0
+waiting = fresh_but varied_sheet Resting (waits_for Raise 10) 0
 
 -- a tick short of T1
 abbrev ready_to : Direction → List ℕ → Regulator
-ready_to d sheet = fresh_but sheet Resting (For d 22) 0
+ready_to d sheet = fresh_but sheet Resting (waits_for d 22) 0
 
 abbrev outside : Regulator
-outside = fresh_but varied_sheet Resting Idle 1000000
+outside = fresh_but varied_sheet Resting None 1000000
 
 -- in manual mode at 100 V: the contacts of each tick, and its outputs 0, 1 and 24: raise, lower, asked or moving
 abbrev Press : Type 0
@@ -165,7 +166,7 @@ abbrev Holds : Type 0
 Holds = (ℕ × ℕ) × (ℕ × ℕ × ℕ × ℕ)
 
 abbrev holding : ℕ → Bool → Regulator
-holding age automatic = fresh_but (set held_sheet wear_count 1) (Asked Raise age automatic) Idle 0
+holding age automatic = fresh_but (set held_sheet wear_count 1) (Asked Raise age automatic) None 0
 
 abbrev holds_of : Regulator → List Holds → List (ℕ × ℕ × ℕ × ℕ)
 holds_of r rows = map (λ t. (output 0 t, output 1 t, output 24 t, output 25 t)) (ticks_from (rests_of r.state.drive) r (map (λ p. brought p.0.0 p.0.1) rows))
@@ -270,13 +271,13 @@ kept_held is q = kept_of_lem fresh_held is given.on_held q
 pub record Met : Type 0 where
   pub after_band_lem : Begins Raise (commands varied_sheet Raise 23)
   pub under_t2_lem : Begins Raise (commands varied_sheet Raise 25)
-  pub at_the_latest_lem : Some (Begins Raise) (row_t2 varied_sheet Raise)
-  pub again_raise : Some Command (bound_row Raise)
-  pub again_lower : Some Command (bound_row Lower)
+  pub at_the_latest_lem : Somewhere (Begins Raise) (row_t2 varied_sheet Raise)
+  pub again_raise : Somewhere Command (bound_row Raise)
+  pub again_lower : Somewhere Command (bound_row Lower)
   pub briefly : Serves (varied_by 1) brief_row
   pub under_t3_lem : Begins Lower (commands varied_sheet Lower 21)
   pub unblocked : (output 13 (commands varied_sheet Raise 23) ≡ 0) × (output 15 (commands varied_sheet Raise 23) ≡ 0)
-  pub held_latest_lem : Some (Begins Raise) (held_row (closed_to Raise))
+  pub held_latest_lem : Somewhere (Begins Raise) (held_row (closed_to Raise))
   pub held_exactly_lem : Begins Raise (held_to Raise true 25 (closed_to Raise) 1 1)
   pub held_again_lem : Begins Raise (held_to Raise true 25 reset_contact 1 1)
   pub held_under_t3_lem : Begins Lower (held_high 1 1)

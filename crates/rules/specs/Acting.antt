@@ -1,4 +1,5 @@
 -- Rules 2 and 7 to 9 of 01: what is done. Definitions only.
+use Rattle.tap_position.specs.Positions.{tap_of}
 use Rattle.std.specs.Prelude.{ℕ, List}
 use Rattle.input.specs.declared.Contacts.{Contacts}
 use Rattle.drive.specs.declared.Drive.{Drive}
@@ -17,7 +18,7 @@ use Rattle.rules.specs.declared.Acted.{Acted}
 
 -- what rules 7 and 8 go by of the rules before
 abbrev pub finding_of : Sensed → Finding
-finding_of x = record { section = x.observed.section; level = x.assessed.level; trips = x.organs.trips; tap = x.observed.position.tap }
+finding_of x = record { section = x.observed.section; level = x.assessed.level; trips = x.organs.trips; tap = tap_of x.observed.position }
 
 -- rules 2 and 7 have given v; rule 8, the blocks, which are b; rule 9, the command and its delay; rule 7, at tick end: what an ended move leaves
 abbrev pub acted_from : List ℕ → Contacts → Sensed → Drive → Memory → Wear → Supervised → Blocks → Acted

@@ -1,5 +1,5 @@
 -- The rules of one tick (01, 'The rules, in order'). Definitions only.
-use Rattle.std.specs.Prelude.{ℕ, Bool, ◌||◌, List, eqb, replicate}
+use Rattle.std.specs.Prelude.{ℕ, Bool, ◌||◌, List, eqb, replicate, Result, Ok, Err}
 use Rattle.common.specs.Choice.{choose}
 use Rattle.slots.specs.Slots.{slot, in_service}
 use Rattle.input.specs.declared.Contacts.{Contacts}
@@ -17,7 +17,8 @@ use Rattle.record.specs.declared.State.{State}
 use Rattle.record.specs.Whole.{regulator_of}
 use Rattle.record_limits.specs.Limits.{within_of}
 use Rattle.record_starting.specs.Starting.{fresh_of}
-use Rattle.rules.specs.declared.Stepped.{Stepped}
+use Rattle.rules.specs.declared.Refused.{Refused}
+use Rattle.rules.specs.declared.Refused.TheVariants.{Record}
 use Rattle.rules.specs.declared.Ticked.{Ticked}
 
 -- ---- rules 3 to 6: what is there
@@ -62,15 +63,15 @@ state_of x y =
       wear = y.accounted.wear;
     }
 
-unfoldable pub end_of : Regulator → Contacts → Sensed → Acted → Ticked
+unfoldable pub end_of : Regulator → Contacts → Sensed → Acted → Ticked Regulator
 end_of r c x y =
     record {
-      reply = record { refusal = 0; outputs = outputs_of r.settings (shown_of c x y) };
+      reply = Ok (outputs_of r.settings (shown_of c x y));
       next = regulator_of r.settings (state_of x y);
     }
 
 -- rules 2 to 10, on a record in service
-unfoldable pub ran_of : Regulator → Input → Contacts → Ticked
+unfoldable pub ran_of : Regulator → Input → Contacts → Ticked Regulator
 ran_of r i c = end_of r c (sensed_in r i c) (acted_in r c (sensed_in r i c))
 
 -- ---- rule 1, and the refusal
@@ -84,17 +85,31 @@ unfoldable pub is_out : Regulator → Contacts → Bool
 is_out r c = eqb (slot r.settings in_service) 0 || c.out
 
 -- "the record becomes the fresh one, all outputs 0, tick over"
-unfoldable pub out_of : Regulator → Ticked
-out_of r = record { reply = record { refusal = 0; outputs = all_off }; next = fresh_of r.settings }
+unfoldable pub out_of : Regulator → Ticked Regulator
+out_of r = record { reply = Ok all_off; next = fresh_of r.settings }
 
--- "tick on a record outside its limits": 4, outputs all 0, the record left as it was
-unfoldable pub refused_of : Regulator → Ticked
-refused_of r = record { reply = record { refusal = 4; outputs = all_off }; next = r }
+-- the refusal's number: "tick on a record outside its limits" is 4
+abbrev pub refused_number : Refused → ℕ
+refused_number Record = 4
+
+-- the number of a tick's answer, 0 where it is accepted
+abbrev pub refusal_in : Result (List ℕ) Refused → ℕ
+refusal_in (Ok outputs) = 0
+refusal_in (Err why) = refused_number why
+
+-- its outputs: all 0 where it is refused
+abbrev pub outputs_in : Result (List ℕ) Refused → List ℕ
+outputs_in (Ok outputs) = outputs
+outputs_in (Err why) = all_off
+
+-- refused: the record left as it was
+unfoldable pub refused_of : Regulator → Ticked Regulator
+refused_of r = record { reply = Err Record; next = r }
 
 -- the tick
-unfoldable pub tick_of : Regulator → Input → Ticked
+unfoldable pub tick_of : Regulator → Input → Ticked Regulator
 tick_of r i = choose (within_of r) (choose (is_out r (contacts_of i.contacts)) (out_of r) (ran_of r i (contacts_of i.contacts))) (refused_of r)
 
 -- what a tick answers and leaves but for the settings, which no tick changes (`rules/proofs/Steps.antt`)
-abbrev pub stepped_of : Ticked → Stepped
-stepped_of t = record { reply = t.reply; state = t.next.state }
+abbrev pub stepped_of : Ticked Regulator → Ticked State
+stepped_of t = record { reply = t.reply; next = t.next.state }

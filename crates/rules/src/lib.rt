@@ -2,32 +2,57 @@
 // promised of lists of ticks is proved of them here; the code is crate `regulator`.
 #![tactic(auto)]
 
+ghost use Rattle.std.specs.Prelude.{◌≡◌};
+ghost use Rattle.rules.specs.Ticks.{refused_number, refusal_in, outputs_in};
+
 use acting_accounting::Accounted;
 use acting_commanding::Regulated;
 use acting_supervising::Supervised;
 use blocks::Blocks;
-use record::{Regulator, State};
 use showing::FIELDS;
 
-// What a tick answers: 0, or the refusal 4 with outputs all 0.
-#[derive(Clone, Copy)]
-pub struct Reply {
-    pub refusal: u32,
-    pub outputs: [u32; FIELDS],
+// Why a tick is refused: the record is outside its limits. Its number is 4.
+#[derive(Clone, Copy, PartialEq, Eq)]
+pub enum Refused {
+    Record,
 }
 
-// The answer, and the next record; a refused record is left as it was.
-#[derive(Clone, Copy)]
-pub struct Ticked {
-    pub reply: Reply,
-    pub next: Regulator,
+impl Refused {
+    pub fn number(self) -> u32
+        ensures { result ≡ refused_number self }
+    {
+        match self {
+            Refused::Record => 4,
+        }
+    }
 }
 
-// The same but for the settings, which no tick changes: the answer, and the next state.
+// What a tick answers: its outputs, or the refusal.
+pub type Reply = Result<[u32; FIELDS], Refused>;
+
+// The number of a tick's answer, 0 where it is accepted.
+pub fn refusal_in(reply: Reply) -> u32
+    ensures { result ≡ refusal_in reply }
+{
+    match reply {
+        Ok(_) => 0,
+        Err(refused) => refused.number(),
+    }
+}
+
+// Its outputs, all 0 where it is refused.
+pub fn outputs_in(reply: Reply) -> [u32; FIELDS]
+    ensures { result ≡ outputs_in reply }
+{
+    reply.unwrap_or([0u32; FIELDS])
+}
+
+// The answer, and what stands after it: the next record, or the next state alone, as no tick changes the settings. What is refused is left
+// as it was.
 #[derive(Clone, Copy)]
-pub struct Stepped {
+pub struct Ticked<S> {
     pub reply: Reply,
-    pub state: State,
+    pub next: S,
 }
 
 // What is done: rules 2 and 7, 8, 9, and what an ended move leaves.

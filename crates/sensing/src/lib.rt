@@ -23,12 +23,9 @@ pub fn sense(s: &[u32; SLOTS], organs: [Organ; 7], counted: u32, i: Input, c: Co
 {
     let observed = sensing_observing::observe(s, i, c.breaker_closed, counted);
     let readings = observed.readings;
-    let stepped = sensing_protecting::protect(s, organs, readings, observed.section);
-    let phasors = i.phasors;
-    let assessed = sensing_assessing::assess(s, readings, phasors, c);
     Sensed {
-        observed: observed,
-        organs: stepped,
-        assessed: assessed,
+        observed,
+        organs: sensing_protecting::protect(s, organs, readings, observed.section),
+        assessed: sensing_assessing::assess(s, readings, i.phasors, c),
     }
 }

@@ -6,13 +6,14 @@ ghost use Rattle.sensing_observing.specs.Observing.{observed_of};
 
 use input::{Input, Readings};
 use slots::{MODULE, SLOTS};
-use tap_position::Position;
+use tap_position::TapError;
 
 #[derive(Clone, Copy)]
 pub struct Observed {
     pub readings: Readings,
     pub section: bool,
-    pub position: Position,
+    // The tap, 0 where none is read, or what is wrong about it.
+    pub position: Result<u32, TapError>,
 }
 
 // `counted` is the counted tap as the tick starts.
@@ -20,12 +21,9 @@ pub fn observe(s: &[u32; SLOTS], i: Input, breaker_closed: bool, counted: u32) -
     ensures { result ≡ observed_of s.now i breaker_closed counted }
 {
     let readings = input_readings::measure_all(i, s[MODULE] == 1);
-    let i_bus = readings.i_bus;
-    let section = busbar_section::section(s, breaker_closed, i_bus);
-    let position = tap_position::read_position(s, i.bcd, i.sensor, counted);
     Observed {
-        readings: readings,
-        section: section,
-        position: position,
+        readings,
+        section: busbar_section::section(s, breaker_closed, readings.i_bus),
+        position: tap_position::read_position(s, i.bcd, i.sensor, counted),
     }
 }

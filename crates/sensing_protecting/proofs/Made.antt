@@ -7,6 +7,7 @@ use Prim.Native.Nat.{ℕ}
 use Rattle.input.specs.declared.Readings.{Readings}
 use Rattle.organ.specs.declared.Organ.{Organ}
 use Rattle.organ.specs.declared.OrganInput.{OrganInput}
+use Rattle.organ.specs.declared.Side.TheVariants.{Over, Under}
 use Rattle.organ.specs.declared.Organs.{Organs}
 use Rattle.organ.specs.Organs.{all_stepped_of}
 use Rattle.sensing_protecting.specs.Protecting.{organ_input_of, organ_inputs_of, protected_of}
@@ -14,13 +15,13 @@ use Rattle.sensing_protecting.specs.Protecting.{organ_input_of, organ_inputs_of,
 -- rule 5
 module _ (s : List ℕ) (organs : List Organ) (x : Readings) (section : Bool) where
   pub protect_made : {r : Organs} {a b c d e f g : OrganInput}
-      → a ≡ organ_input_of s section 0 false x.i_high
-      → b ≡ organ_input_of s section 1 false x.i_bus
-      → c ≡ organ_input_of s section 2 true x.i_bus
-      → d ≡ organ_input_of s section 3 false x.u_ab
-      → e ≡ organ_input_of s section 4 true x.u_ab
-      → f ≡ organ_input_of s section 5 false x.u0
-      → g ≡ organ_input_of s section 6 false x.u2
+      → a ≡ organ_input_of s section 0 Over x.i_high
+      → b ≡ organ_input_of s section 1 Over x.i_bus
+      → c ≡ organ_input_of s section 2 Under x.i_bus
+      → d ≡ organ_input_of s section 3 Over x.u_ab
+      → e ≡ organ_input_of s section 4 Under x.u_ab
+      → f ≡ organ_input_of s section 5 Over x.u0
+      → g ≡ organ_input_of s section 6 Over x.u2
       → r ≡ all_stepped_of organs (a ∷ b ∷ c ∷ d ∷ e ∷ f ∷ g ∷ [])
       → r ≡ protected_of s organs x section
   unfolding protected_of organ_inputs_of

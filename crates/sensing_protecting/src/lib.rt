@@ -2,45 +2,34 @@
 #![tactic(auto)]
 
 ghost use Rattle.std.specs.Prelude.{◌≡◌, ◌<◌};
-ghost use Rattle.sensing_protecting.specs.Protecting.{amount_of, missing_of, organ_input_of, protected_of};
+ghost use Rattle.sensing_protecting.specs.Protecting.{amount_of, organ_input_of, protected_of};
 
 use input::Readings;
 use measure::Measured;
-use organ::{Organ, OrganInput, Organs};
+use organ::{Organ, OrganInput, Organs, Side};
 use slots::{ORGAN_DELAYS, ORGAN_LIMITS, ORGANS_ON, SLOTS};
 
 // The number of a reading, Good or Held.
-fn amount(m: Measured) -> u32
+#[tactic(auto, unfolding(crate::specs::Protecting::amount_of))]
+fn amount(m: Measured) -> Option<u32>
     ensures { result ≡ amount_of m }
 {
     match m {
-        Measured::Good(n) => n,
-        Measured::Held(n) => n,
-        Measured::Missing => 0,
-    }
-}
-
-fn is_missing(m: Measured) -> bool
-    ensures { result ≡ missing_of m }
-{
-    match m {
-        Measured::Good(_) => false,
-        Measured::Held(_) => false,
-        Measured::Missing => true,
+        Measured::Good(n) | Measured::Held(n) => Some(n),
+        Measured::Missing => None,
     }
 }
 
 // What the organ at a place, 0 for organ 6, goes by.
-fn organ_input(s: &[u32; SLOTS], k: usize, under: bool, m: Measured, section: bool) -> OrganInput
+#[tactic(auto, using(common::proofs::Cases::cases), unfolding(crate::specs::Protecting::organ_input_of))]
+fn organ_input(s: &[u32; SLOTS], k: usize, side: Side, m: Measured, section: bool) -> OrganInput
     requires { k < 7 }
-    ensures { result ≡ organ_input_of s.now section k under m }
+    ensures { result ≡ organ_input_of s.now section k side m }
 {
-    let missing = is_missing(m);
-    let value = amount(m);
+    let on = (s[ORGANS_ON + k] == 1) & section;
     OrganInput {
-        live: (s[ORGANS_ON + k] == 1) & section & !missing,
-        under: under,
-        value: value,
+        side,
+        value: if on { amount(m) } else { None },
         limit: s[ORGAN_LIMITS + k],
         delay: s[ORGAN_DELAYS + k],
     }
@@ -50,18 +39,12 @@ fn organ_input(s: &[u32; SLOTS], k: usize, under: bool, m: Measured, section: bo
 pub fn protect(s: &[u32; SLOTS], organs: [Organ; 7], x: Readings, section: bool) -> Organs
     ensures { result ≡ protected_of s.now organs x section }
 {
-    let i_high = x.i_high;
-    let i_bus = x.i_bus;
-    let u_ab = x.u_ab;
-    let u0 = x.u0;
-    let u2 = x.u2;
-    let a = organ_input(s, 0, false, i_high, section);
-    let b = organ_input(s, 1, false, i_bus, section);
-    let c = organ_input(s, 2, true, i_bus, section);
-    let d = organ_input(s, 3, false, u_ab, section);
-    let e = organ_input(s, 4, true, u_ab, section);
-    let f = organ_input(s, 5, false, u0, section);
-    let g = organ_input(s, 6, false, u2, section);
-    let xs = [a, b, c, d, e, f, g];
-    organ::organs_step(organs, xs)
+    let a = organ_input(s, 0, Side::Over, x.i_high, section);
+    let b = organ_input(s, 1, Side::Over, x.i_bus, section);
+    let c = organ_input(s, 2, Side::Under, x.i_bus, section);
+    let d = organ_input(s, 3, Side::Over, x.u_ab, section);
+    let e = organ_input(s, 4, Side::Under, x.u_ab, section);
+    let f = organ_input(s, 5, Side::Over, x.u0, section);
+    let g = organ_input(s, 6, Side::Over, x.u2, section);
+    organ::organs_step(organs, [a, b, c, d, e, f, g])
 }

@@ -11,20 +11,10 @@ use Rattle.common.specs.Choice.{choose}
 use Rattle.common.proofs.Cases.{yes, no}
 use Rattle.slots.specs.Slots.{slot, n_pos, n_r, n_l, slots}
 use Rattle.sheet_ranges.specs.Ranges.{first_out_of_range}
+use Rattle.std.specs.Prelude.{Result, Ok, Err}
 use Rattle.sheet.specs.Sheet.{is_taken, wrong_length, out_of_range, ends_crossed, pos_outside, counted_tap, judge_of, passes_of, answer_of, zeros, sheet_with, sheet_of, reply_of, returned_of}
-use Rattle.sheet.specs.declared.Answer.{Answer}
-use Rattle.sheet.specs.declared.Answer.TheVariants.{Taken, WrongLength, OutOfRange, TapOrder, CountedTap}
-use Rattle.sheet.specs.declared.Sheet.{Sheet}
-
--- a sheet is made
-module _ (a : Answer) (s : List ℕ) {t : Bool} (e : t ≡ is_taken a) where
-  pub with_list : t ≡ true → ◌≡◌ {A = Sheet} (record { answer = a; settings = s }) (sheet_with a s)
-  unfolding sheet_with
-  with_list p = let z : ◌≡◌ {A = List ℕ} s _ = yes s s zeros (is_taken a) (sym e ∙ p) refl in cc
-
-  pub with_zeros : t ≡ false → ◌≡◌ {A = Sheet} (record { answer = a; settings = zeros }) (sheet_with a s)
-  unfolding sheet_with
-  with_zeros p = let z : ◌≡◌ {A = List ℕ} zeros _ = no zeros s zeros (is_taken a) (sym e ∙ p) refl in cc
+use Rattle.sheet.specs.declared.Refusal.{Refusal}
+use Rattle.sheet.specs.declared.Refusal.TheVariants.{WrongLength, OutOfRange, TapOrder, CountedTap}
 
 -- whether N_pos is within N_L–N_R
 abbrev pub within : List ℕ → Bool
@@ -32,34 +22,37 @@ within s = leb (slot s n_l) (slot s n_pos) && leb (slot s n_pos) (slot s n_r)
 
 -- a list of the right length
 module _ (s : List ℕ) {n : ℕ} (p : n ≡ first_out_of_range s) where
-  pub slot_refused : n < slots → OutOfRange n ≡ judge_of s
+  pub slot_refused : n < slots → Err (OutOfRange n) ≡ judge_of s
   unfolding judge_of
   slot_refused h = rw (← p) (yes _ _ _ _ (lt-ltb _ _ h) refl)
 
-  pub ends_refused : slots ≤ n → slot s n_r ≤ slot s n_l → TapOrder 49 ≡ judge_of s
+  pub ends_refused : slots ≤ n → slot s n_r ≤ slot s n_l → Err (TapOrder 49) ≡ judge_of s
   unfolding judge_of
   ends_refused h c = rw (← p) (no _ _ _ _ (le-ltb _ _ h) (yes _ _ _ _ (le-leb _ _ c) refl))
 
-  pub pos_refused : slots ≤ n → slot s n_l < slot s n_r → within s ≡ false → TapOrder 48 ≡ judge_of s
+  pub pos_refused : slots ≤ n → slot s n_l < slot s n_r → within s ≡ false → Err (TapOrder 48) ≡ judge_of s
   unfolding judge_of
   pos_refused h c e = rw (← p) (no _ _ _ _ (le-ltb _ _ h) (no _ _ _ _ (lt-leb _ _ c) (yes _ _ _ _ (ap not e) refl)))
 
   module _ (h : slots ≤ n) (c : slot s n_l < slot s n_r) (e : within s ≡ true) where
-    pub count_refused : counted_tap s ≡ true → CountedTap ≡ judge_of s
+    pub count_refused : counted_tap s ≡ true → Err CountedTap ≡ judge_of s
     unfolding judge_of
     count_refused d = rw (← p) (no _ _ _ _ (le-ltb _ _ h) (no _ _ _ _ (lt-leb _ _ c) (no _ _ _ _ (ap not e) (yes _ _ _ _ d refl))))
 
-    pub not_refused : counted_tap s ≡ false → Taken ≡ judge_of s
+    pub not_refused : counted_tap s ≡ false → Ok tt ≡ judge_of s
     unfolding judge_of
     not_refused d = rw (← p) (no _ _ _ _ (le-ltb _ _ h) (no _ _ _ _ (lt-leb _ _ c) (no _ _ _ _ (ap not e) (no _ _ _ _ d refl))))
 
-pub passes_told : (s : List ℕ) {a : Answer} {t : Bool} → a ≡ judge_of s → t ≡ is_taken a → t ≡ passes_of s
+pub passes_told : (s : List ℕ) {a : Result (Unit {0}) Refusal} {t : Bool} → a ≡ judge_of s → t ≡ is_taken a → t ≡ passes_of s
 unfolding passes_of
 passes_told s p e = e ∙ ap is_taken p
 
+-- what `search` and `grind` follow the judging by
+pub ruleset judging = (slot_refused, ends_refused, pos_refused, count_refused, not_refused, passes_told)
+
 -- a list of any length
 module _ (s : List ℕ) where
-  pub answer_wrong : (length s ≡ slots → ⊥) → answer_of s ≡ WrongLength
+  pub answer_wrong : (length s ≡ slots → ⊥) → answer_of s ≡ Err WrongLength
   unfolding answer_of
   answer_wrong h = sym (yes _ _ _ _ (ap not (ne_eqb _ _ h)) refl)
 
@@ -67,19 +60,27 @@ module _ (s : List ℕ) where
   unfolding answer_of
   answer_right h = sym (no _ _ _ _ (ap not (eq-eqb _ _ h)) refl)
 
-  pub wrong_length_lem : {r : Sheet} (zs : List ℕ) → (length s ≡ slots → ⊥) → r ≡ sheet_with WrongLength zs → r ≡ sheet_of s
-  unfolding sheet_of sheet_with choose
-  wrong_length_lem zs h e = e ∙ ap (λ (a : Answer). sheet_with a s) (sym (answer_wrong h))
-
-  pub right_length : {r : Sheet} {a : Answer} {ys : List ℕ} → length s ≡ slots → ys ≡ s → a ≡ judge_of ys → r ≡ sheet_with a ys → r ≡ sheet_of s
+  pub wrong_length_lem : (length s ≡ slots → ⊥) → Err WrongLength ≡ sheet_of s
   unfolding sheet_of
-  right_length h p q e = let z : answer_of s ≡ judge_of s = answer_right h in cc
+  wrong_length_lem h = sym (ap (λ (a : Result (Unit {0}) Refusal). sheet_with a s) (answer_wrong h))
+
+  -- the list, or a copy of it, is judged
+  module _ {ys : List ℕ} {a : Result (Unit {0}) Refusal} (h : length s ≡ slots) (p : ys ≡ s) (q : a ≡ judge_of ys) where
+    judged : sheet_with a ys ≡ sheet_of s
+    unfolding sheet_of
+    judged = let z : answer_of s ≡ judge_of s = answer_right h in cc
+
+    pub right_refused : {e : Refusal} {r : Result (List ℕ) Refusal} → a ≡ Err e → r ≡ Err e → r ≡ sheet_of s
+    right_refused f g = g ∙ ap (λ (b : Result (Unit {0}) Refusal). sheet_with b ys) (sym f) ∙ judged
+
+    pub right_taken : {u : Unit {0}} → a ≡ Ok u → Ok ys ≡ sheet_of s
+    right_taken f = ap (λ (b : Result (Unit {0}) Refusal). sheet_with b ys) (sym f) ∙ judged
 
 -- the sheet says what the paper's table returns
 by_cause : (a b c d e : Bool) (n : ℕ) (s : List ℕ)
-    → reply_of (sheet_with (choose a WrongLength (choose b (OutOfRange n) (choose c (TapOrder 49) (choose d (TapOrder 48) (choose e CountedTap Taken))))) s)
+    → reply_of (sheet_with (choose a (Err WrongLength) (choose b (Err (OutOfRange n)) (choose c (Err (TapOrder 49)) (choose d (Err (TapOrder 48)) (choose e (Err CountedTap) (Ok tt)))))) s)
     ≡ choose a (record { number = 1; slot = 0; settings = zeros }) (choose b (record { number = 2; slot = n; settings = zeros }) (choose c (record { number = 3; slot = 49; settings = zeros }) (choose d (record { number = 3; slot = 48; settings = zeros }) (choose e (record { number = 5; slot = 63; settings = zeros }) (record { number = 0; slot = 0; settings = s })))))
-unfolding sheet_with choose
+unfolding choose
 by_cause true b c d e n s = refl
 by_cause false true c d e n s = refl
 by_cause false false true d e n s = refl

@@ -14,8 +14,8 @@ use Rattle.sheet_ranges.specs.Ranges.{taken_in, first_out_of_range}
 use Rattle.sheet_ranges.proofs.Numbers.{taken_taking, taking_taken, holds_below, holds_at_all}
 use Rattle.sheet.specs.Sheet.{counted_tap, judge_of, answer_of, sheet_with, sheet_of, reply_of, returned_of}
 use Rattle.sheet.specs.Settings.{Settings}
-use Rattle.sheet.specs.declared.Answer.TheVariants.{Taken, WrongLength, OutOfRange, TapOrder, CountedTap}
-use Rattle.sheet.specs.declared.Sheet.{Sheet}
+use Rattle.std.specs.Prelude.{Result, Ok, Err, IsOk}
+use Rattle.sheet.specs.declared.Refusal.{Refusal}
 use Rattle.common.proofs.Joined.{split, and_left, and_right, and_both, or_true, or_is}
 use Rattle.sheet.proofs.Answers.{within, answer_right, not_refused, returned}
 
@@ -25,17 +25,9 @@ unfolding choose
 passed_by true x y z e d = absurd (d e)
 passed_by false x y z e d = (refl, e)
 
-refused_length : WrongLength ≡ Taken → ⊥
-refused_length e = let z : ◌≡◌ {A = ℕ} 0 1 = cc in omega arith
-
-refused_slot : {n : ℕ} → OutOfRange n ≡ Taken → ⊥
-refused_slot e = let z : ◌≡◌ {A = ℕ} 0 1 = cc in omega arith
-
-refused_tap : {n : ℕ} → TapOrder n ≡ Taken → ⊥
-refused_tap e = let z : ◌≡◌ {A = ℕ} 0 1 = cc in omega arith
-
-refused_count : CountedTap ≡ Taken → ⊥
-refused_count e = let z : ◌≡◌ {A = ℕ} 0 1 = cc in omega arith
+-- a refusal is no list that is taken
+not_taken : {r : Refusal} → ◌≡◌ {A = Result (Unit {0}) Refusal} (Err r) (Ok tt) → ⊥
+not_taken e = cc
 
 -- the cause of refusal 5, as the test has it and as the paper says it
 abbrev Counted : List ℕ → Type 0
@@ -67,23 +59,23 @@ pub record Kept (s : List ℕ) : Type 0 where
   pub counted : Counted s
 
 module _ (s : List ℕ) where
-  pub judged_kept : judge_of s ≡ Taken → Kept s
+  pub judged_kept : judge_of s ≡ Ok tt → Kept s
   unfolding judge_of first_out_of_range
   judged_kept e =
-      let a = passed_by _ _ _ _ e refused_slot in
+      let a = passed_by _ _ _ _ e not_taken in
       let n : slots ≤ first_out_of_range s = ltb-false _ _ a.0 in
-      let b = passed_by _ _ _ _ a.1 refused_tap in
-      let d = passed_by _ _ _ _ b.1 refused_tap in
+      let b = passed_by _ _ _ _ a.1 not_taken in
+      let d = passed_by _ _ _ _ b.1 not_taken in
       let c : within s ≡ true = not-false _ d.0 in
       record {
         ranges = λ i h. holds_below (taken_in s) slots 0 i (omega arith) (omega (arith, n));
         ends = leb-false _ _ b.0;
         above = leb-true _ _ (and_left _ _ c);
         below = leb-true _ _ (and_right (leb (slot s n_l) (slot s n_pos)) _ c);
-        counted = no_count s (passed_by _ _ _ _ d.1 refused_count).0;
+        counted = no_count s (passed_by _ _ _ _ d.1 not_taken).0;
       }
 
-  pub kept_judged : Kept s → judge_of s ≡ Taken
+  pub kept_judged : Kept s → judge_of s ≡ Ok tt
   unfolding first_out_of_range
   kept_judged k =
       sym
@@ -93,10 +85,10 @@ module _ (s : List ℕ) where
       (and_both _ _ (le-leb _ _ k.above) (le-leb _ _ k.below))
       (count_no s k.counted))
 
-  taken_settings : answer_of s ≡ Taken → Settings s
+  taken_settings : answer_of s ≡ Ok tt → Settings s
   unfolding answer_of taken_in
   taken_settings e =
-      let a = passed_by _ _ _ _ e refused_length in
+      let a = passed_by _ _ _ _ e not_taken in
       let k = judged_kept a.1 in
       record {
         size = eqb-true _ _ (not-false _ a.0);
@@ -107,18 +99,23 @@ module _ (s : List ℕ) where
         counted = k.counted;
       }
 
-  settings_taken : Settings s → answer_of s ≡ Taken
+  settings_taken : Settings s → answer_of s ≡ Ok tt
   unfolding taken_in
   settings_taken t =
       answer_right s t.size
       ∙ kept_judged (record { ranges = λ i h. taking_taken _ _ _ (t.ranges i h); ends = t.ends; above = t.above; below = t.below; counted = t.counted })
 
-  pub exact : (answer_of s ≡ Taken) ↔ Settings s
+  pub exact : (answer_of s ≡ Ok tt) ↔ Settings s
   exact = (taken_settings, settings_taken)
 
+  ok_taken : (a : Result (Unit {0}) Refusal) → IsOk (sheet_with a s) → a ≡ Ok tt
+  ok_taken (Ok u) h = refl
+  ok_taken (Err e) h = absurd (true≢false (sym h))
+
+  taken_ok : (a : Result (Unit {0}) Refusal) → a ≡ Ok tt → IsOk (sheet_with a s)
+  taken_ok a p = rw p refl
+
   -- all that the check of a list promises
-  pub checked : {r : Sheet} → r ≡ sheet_of s → (r ≡ sheet_of s) × ((reply_of r ≡ returned_of s) × ((r.answer ≡ Taken) ↔ Settings s))
-  unfolding sheet_of sheet_with
-  checked e =
-      let a = ap (λ (x : Sheet). x.answer) e in
-      (e, (ap reply_of e ∙ returned s, ((λ p. exact.0 (sym a ∙ p)), (λ t. a ∙ exact.1 t))))
+  pub checked : {r : Result (List ℕ) Refusal} → r ≡ sheet_of s → (r ≡ sheet_of s) × ((reply_of r ≡ returned_of s) × (IsOk r ↔ Settings s))
+  unfolding sheet_of
+  checked e = (e, (ap reply_of e ∙ returned s, ((λ h. exact.0 (ok_taken _ (rw e at h))), (λ t. rw e (taken_ok _ (exact.1 t))))))

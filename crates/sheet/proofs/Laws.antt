@@ -1,7 +1,7 @@
 -- What holds of settings that pass, for the crates that use them.
 -- Assumes nothing.
 use mathlib.Core.Path.{◌≡◌, refl, sym, ◌∙◌, ap}
-use mathlib.Core.Bool.{Bool, true, ◌&&◌}
+use mathlib.Core.Bool.{Bool, true, ◌&&◌, true≢false}
 use mathlib.Core.List.{List}
 use Prim.Native.Nat.{ℕ, ◌+◌, ◌*◌, ◌<◌, ◌≤◌}
 use native.Mathlib.Nat.{le_trans}
@@ -13,32 +13,29 @@ use Rattle.slots.specs.Slots.{slot, resistance, reactance, ct_rating, breaker_ra
 use Rattle.sheet_ranges.specs.Table.{Row, most_ticks, most_tap, row_of, row_in, module_factor, factor_of, low_of, high_of, taken_of, taken_by}
 use Rattle.sheet_ranges.specs.Ranges.{taken_in}
 use Rattle.sheet.specs.Sheet.{is_taken, judge_of, passes_of, answer_of}
-use Rattle.sheet.specs.declared.Answer.{Answer}
-use Rattle.sheet.specs.declared.Answer.TheVariants.{Taken, WrongLength, OutOfRange, TapOrder, CountedTap}
+use Rattle.std.specs.Prelude.{Result, Ok, Err}
+use Rattle.sheet.specs.declared.Refusal.{Refusal}
 use Rattle.common.proofs.Joined.{and_left, and_right}
 use Rattle.sheet_ranges.proofs.Every.{all_below, every}
 use Rattle.sheet_ranges.proofs.Tables.{with_module}
 use Rattle.sheet.proofs.Exact.{Kept, judged_kept, exact}
 use Rattle.sheet.proofs.Answers.{answer_right}
 
-is_taken_lem : (a : Answer) → is_taken a ≡ true → a ≡ Taken
-is_taken_lem Taken e = refl
-is_taken_lem WrongLength e = absurd (let z : ◌≡◌ {A = ℕ} 0 1 = cc in omega arith)
-is_taken_lem (OutOfRange i) e = absurd (let z : ◌≡◌ {A = ℕ} 0 1 = cc in omega arith)
-is_taken_lem (TapOrder i) e = absurd (let z : ◌≡◌ {A = ℕ} 0 1 = cc in omega arith)
-is_taken_lem CountedTap e = absurd (let z : ◌≡◌ {A = ℕ} 0 1 = cc in omega arith)
+is_taken_lem : (a : Result (Unit {0}) Refusal) → is_taken a ≡ true → a ≡ Ok tt
+is_taken_lem (Ok u) e = refl
+is_taken_lem (Err r) e = absurd (true≢false (sym e))
 
 -- to pass is to be judged as taken, and a list that is taken passes
 module _ (s : List ℕ) where
-  pub pass_judged : passes_of s ≡ true → judge_of s ≡ Taken
+  pub pass_judged : passes_of s ≡ true → judge_of s ≡ Ok tt
   unfolding passes_of
   pass_judged e = is_taken_lem (judge_of s) e
 
-  pub judged_pass : judge_of s ≡ Taken → passes_of s ≡ true
+  pub judged_pass : judge_of s ≡ Ok tt → passes_of s ≡ true
   unfolding passes_of
   judged_pass e = ap is_taken e
 
-  pub taken_pass : answer_of s ≡ Taken → passes_of s ≡ true
+  pub taken_pass : answer_of s ≡ Ok tt → passes_of s ≡ true
   taken_pass e = judged_pass (sym (answer_right s ((exact s).0 e).size) ∙ e)
 
 -- whether all that a row takes, by k, is within l to h

@@ -1,4 +1,3 @@
-pub mod Copies
 pub mod Answers
 pub mod Exact
 pub mod Laws

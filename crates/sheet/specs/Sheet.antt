@@ -1,34 +1,37 @@
 -- What the check of a list answers: the paper's table of refusals, with 5 of 02, ticket 2.
-use Rattle.std.specs.Prelude.{ℕ, Bool, true, false, not, ◌&&◌, ◌||◌, List, [], ◌∷◌, leb, ltb, eqb, length, replicate}
+use Rattle.std.specs.Prelude.{ℕ, Bool, not, ◌&&◌, ◌||◌, List, [], ◌∷◌, leb, ltb, eqb, length, replicate, Result, Ok, Err, is_ok}
 use Rattle.common.specs.Choice.{choose}
 use Rattle.slots.specs.Slots.{slot, slots, tap_source, n_pos, n_r, n_l, continuous, is_continuous}
 use Rattle.sheet_ranges.specs.Ranges.{first_out_of_range}
-use Rattle.sheet.specs.declared.Answer.{Answer}
-use Rattle.sheet.specs.declared.Answer.TheVariants.{Taken, WrongLength, OutOfRange, TapOrder, CountedTap}
-use Rattle.sheet.specs.declared.Sheet.{Sheet}
+use Rattle.sheet.specs.declared.Refusal.{Refusal}
+use Rattle.sheet.specs.declared.Refusal.TheVariants.{WrongLength, OutOfRange, TapOrder, CountedTap}
 
--- the paper's number of an answer, 0 for a list that is taken
-abbrev pub number_of : Answer → ℕ
-number_of Taken = 0
-number_of WrongLength = 1
-number_of (OutOfRange i) = 2
-number_of (TapOrder i) = 3
-number_of CountedTap = 5
+-- the paper's number of a refusal
+abbrev pub refusal_number : Refusal → ℕ
+refusal_number WrongLength = 1
+refusal_number (OutOfRange i) = 2
+refusal_number (TapOrder i) = 3
+refusal_number CountedTap = 5
 
 -- the slot that the paper returns with it
-abbrev pub slot_of : Answer → ℕ
-slot_of Taken = 0
-slot_of WrongLength = 0
-slot_of (OutOfRange i) = i
-slot_of (TapOrder i) = i
-slot_of CountedTap = continuous
+abbrev pub refusal_slot : Refusal → ℕ
+refusal_slot WrongLength = 0
+refusal_slot (OutOfRange i) = i
+refusal_slot (TapOrder i) = i
+refusal_slot CountedTap = continuous
 
-abbrev pub is_taken : Answer → Bool
-is_taken Taken = true
-is_taken WrongLength = false
-is_taken (OutOfRange i) = false
-is_taken (TapOrder i) = false
-is_taken CountedTap = false
+-- the paper's number of an answer, 0 for a list that is taken
+abbrev pub number_of : {A : Type 0} → Result A Refusal → ℕ
+number_of (Ok a) = 0
+number_of (Err e) = refusal_number e
+
+-- the slot that the paper returns with it
+abbrev pub slot_of : {A : Type 0} → Result A Refusal → ℕ
+slot_of (Ok a) = 0
+slot_of (Err e) = refusal_slot e
+
+abbrev pub is_taken : {A : Type 0} → Result A Refusal → Bool
+is_taken a = is_ok a
 
 -- the causes, as the paper's table has them
 -- 'list not 63 long'; 02, ticket 5: 'the sheet is 68 long'
@@ -52,46 +55,52 @@ abbrev pub counted_tap : List ℕ → Bool
 counted_tap s = is_continuous s && (eqb (slot s tap_source) 3 || eqb (slot s tap_source) 4)
 
 -- a cause, and what is answered to it
-pub record Refusal (A : Type 0) : Type 0 where
+pub record Row (A : Type 0) : Type 0 where
   pub cause : Bool
   pub reply : A
 
-abbrev to : {A : Type 0} → Bool → A → Refusal A
+abbrev to : {A : Type 0} → Bool → A → Row A
 to b a = record { cause = b; reply = a }
 
 -- 'they are tested in this order': the reply to the first cause that holds, else `none`
-abbrev pub first_of : {A : Type 0} → List (Refusal A) → A → A
+abbrev pub first_of : {A : Type 0} → List (Row A) → A → A
 first_of [] none = none
 first_of (r ∷ rs) none = choose r.cause r.reply (first_of rs none)
 
 -- the answer to a list of the right length
-unfoldable pub judge_of : List ℕ → Answer
+unfoldable pub judge_of : List ℕ → Result (Unit {0}) Refusal
 judge_of s =
     first_of
-    (to (out_of_range s) (OutOfRange (first_out_of_range s)) ∷
-    to (ends_crossed s) (TapOrder n_r) ∷
-    to (pos_outside s) (TapOrder n_pos) ∷
-    to (counted_tap s) CountedTap ∷
+    (to (out_of_range s) (Err (OutOfRange (first_out_of_range s))) ∷
+    to (ends_crossed s) (Err (TapOrder n_r)) ∷
+    to (pos_outside s) (Err (TapOrder n_pos)) ∷
+    to (counted_tap s) (Err CountedTap) ∷
     [])
-    Taken
+    (Ok tt)
 
 -- whether it is taken
 unfoldable pub passes_of : List ℕ → Bool
 passes_of s = is_taken (judge_of s)
 
 -- the answer to any list
-unfoldable pub answer_of : List ℕ → Answer
-answer_of s = first_of (to (wrong_length s) WrongLength ∷ []) (judge_of s)
+unfoldable pub answer_of : List ℕ → Result (Unit {0}) Refusal
+answer_of s = first_of (to (wrong_length s) (Err WrongLength) ∷ []) (judge_of s)
 
 abbrev pub zeros : List ℕ
 zeros = replicate slots 0
 
--- an answer, with the list where it is taken, else zeros
-unfoldable pub sheet_with : Answer → List ℕ → Sheet
-sheet_with a s = record { answer = a; settings = choose (is_taken a) s zeros }
+-- an answer, with the list where it is taken
+abbrev pub sheet_with : Result (Unit {0}) Refusal → List ℕ → Result (List ℕ) Refusal
+sheet_with (Ok u) s = Ok s
+sheet_with (Err e) s = Err e
 
-unfoldable pub sheet_of : List ℕ → Sheet
+unfoldable pub sheet_of : List ℕ → Result (List ℕ) Refusal
 sheet_of s = sheet_with (answer_of s) s
+
+-- the list where it is taken, else zeros
+abbrev pub settings_of : Result (List ℕ) Refusal → List ℕ
+settings_of (Ok s) = s
+settings_of (Err e) = zeros
 
 -- what is returned, in the paper's numbers
 pub record Reply : Type 0 where
@@ -99,9 +108,9 @@ pub record Reply : Type 0 where
   pub slot : ℕ
   pub settings : List ℕ
 
--- a sheet's answer by its number and slot, with its settings
-abbrev pub reply_of : Sheet → Reply
-reply_of r = record { number = number_of r.answer; slot = slot_of r.answer; settings = r.settings }
+-- a sheet by its number and slot, with its settings
+abbrev pub reply_of : Result (List ℕ) Refusal → Reply
+reply_of r = record { number = number_of r; slot = slot_of r; settings = settings_of r }
 
 abbrev reply : ℕ → ℕ → List ℕ → Reply
 reply n i s = record { number = n; slot = i; settings = s }

@@ -1,15 +1,14 @@
-// The setting sheet: what the check of a list answers, by number and slot; the check itself is in `sheet_judging`.
+// The setting sheet: how the check of a list refuses it, by number and slot; the check itself is in `sheet_judging`.
 #![tactic(auto)]
 
 ghost use Rattle.std.specs.Prelude.{◌≡◌};
-ghost use Rattle.sheet.specs.Sheet.{number_of, slot_of, is_taken};
+ghost use Rattle.sheet.specs.Sheet.{refusal_number, refusal_slot, number_of, slot_of};
 
-use slots::{CONTINUOUS, SLOTS};
+use slots::CONTINUOUS;
 
-// What the check of a list answers.
-#[derive(Clone, Copy)]
-pub enum Answer {
-    Taken,
+// Why a list is refused.
+#[derive(Clone, Copy, PartialEq, Eq)]
+pub enum Refusal {
     WrongLength,
     OutOfRange { slot: u32 },
     TapOrder { slot: u32 },
@@ -17,47 +16,41 @@ pub enum Answer {
     CountedTap,
 }
 
-// The answer, with the list where it is taken, and zeros elsewhere.
-#[derive(Clone, Copy)]
-pub struct Sheet {
-    pub answer: Answer,
-    pub settings: [u32; SLOTS],
-}
+impl Refusal {
+    pub fn number(self) -> u32
+        ensures { result ≡ refusal_number self }
+    {
+        match self {
+            Refusal::WrongLength => 1,
+            Refusal::OutOfRange { slot: _ } => 2,
+            Refusal::TapOrder { slot: _ } => 3,
+            Refusal::CountedTap => 5,
+        }
+    }
 
-pub fn taken(a: Answer) -> bool
-    ensures { result ≡ is_taken a }
-{
-    match a {
-        Answer::Taken => true,
-        Answer::WrongLength => false,
-        Answer::OutOfRange { slot: _ } => false,
-        Answer::TapOrder { slot: _ } => false,
-        Answer::CountedTap => false,
+    // The slot that is returned with it.
+    pub fn slot(self) -> u32
+        ensures { result ≡ refusal_slot self }
+    {
+        match self {
+            Refusal::WrongLength => 0,
+            Refusal::OutOfRange { slot } => slot,
+            Refusal::TapOrder { slot } => slot,
+            Refusal::CountedTap => CONTINUOUS as u32,
+        }
     }
 }
 
 // The number of an answer, 0 for a list that is taken.
-pub fn number(a: Answer) -> u32
-    ensures { result ≡ number_of a }
+pub fn number<T>(answer: &Result<T, Refusal>) -> u32
+    ensures { result ≡ number_of answer.now }
 {
-    match a {
-        Answer::Taken => 0,
-        Answer::WrongLength => 1,
-        Answer::OutOfRange { slot: _ } => 2,
-        Answer::TapOrder { slot: _ } => 3,
-        Answer::CountedTap => 5,
-    }
+    answer.as_ref().err().map_or(0, |refusal| refusal.number())
 }
 
-// The slot that is returned with it.
-pub fn slot(a: Answer) -> u32
-    ensures { result ≡ slot_of a }
+// The slot of an answer, 0 for a list that is taken.
+pub fn slot<T>(answer: &Result<T, Refusal>) -> u32
+    ensures { result ≡ slot_of answer.now }
 {
-    match a {
-        Answer::Taken => 0,
-        Answer::WrongLength => 0,
-        Answer::OutOfRange { slot } => slot,
-        Answer::TapOrder { slot } => slot,
-        Answer::CountedTap => CONTINUOUS as u32,
-    }
+    answer.as_ref().err().map_or(0, |refusal| refusal.slot())
 }

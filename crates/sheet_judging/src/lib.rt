@@ -2,16 +2,16 @@
 // counted.
 #![tactic(auto)]
 
-ghost use Rattle.std.specs.Prelude.{◌≡◌, ◌↔◌, length};
-ghost use Rattle.slots.specs.Slots.{slots};
-ghost use Rattle.sheet.specs.Sheet.{judge_of, passes_of, sheet_with, sheet_of, reply_of, returned_of};
+ghost use Rattle.std.specs.Prelude.{◌≡◌, ◌↔◌, IsOk};
+ghost use Rattle.sheet.specs.Sheet.{judge_of, passes_of, sheet_of, reply_of, returned_of};
 ghost use Rattle.sheet.specs.Settings.{Settings};
 
-use sheet::{Answer, Sheet};
+use sheet::Refusal;
 use slots::{CONTINUOUS, N_L, N_POS, N_R, SLOTS, TAP_SOURCE};
 
 // The answer to a list of the right length.
-fn judge(s: &[u32; SLOTS]) -> Answer
+#[tactic(auto, using(sheet::proofs::Answers::judging))]
+fn judge(s: &[u32; SLOTS]) -> Result<(), Refusal>
     ensures { result ≡ judge_of s.now }
 {
     let first = sheet_ranges::first_out_of_range(s);
@@ -21,67 +21,37 @@ fn judge(s: &[u32; SLOTS]) -> Answer
     let source = s[TAP_SOURCE];
     let continuous = s[CONTINUOUS] == 1;
     if first < SLOTS {
-        let slot = first as u32;
-        return Answer::OutOfRange { slot };
+        return Err(Refusal::OutOfRange { slot: first as u32 });
     }
     if right <= left {
-        let slot = N_R as u32;
-        return Answer::TapOrder { slot };
+        return Err(Refusal::TapOrder { slot: N_R as u32 });
     }
     if (left <= pos) & (pos <= right) {
         if continuous & ((source == 3) | (source == 4)) {
-            return Answer::CountedTap;
+            return Err(Refusal::CountedTap);
         }
-        return Answer::Taken;
+        return Ok(());
     }
-    let slot = N_POS as u32;
-    Answer::TapOrder { slot }
+    Err(Refusal::TapOrder { slot: N_POS as u32 })
 }
 
 // Whether a list of the right length is taken.
+#[tactic(auto, using(sheet::proofs::Answers::judging))]
 pub fn passes(s: &[u32; SLOTS]) -> bool
     ensures { result ≡ passes_of s.now }
 {
-    sheet::taken(judge(s))
+    judge(s).is_ok()
 }
 
-// The list as an array.
-fn copied(list: &[u32]) -> [u32; SLOTS]
-    requires { length list.now ≡ slots }
-    ensures { result ≡ list.now }
-{
-    let mut copy = [0u32; SLOTS];
-    let mut i: usize = 0;
-    while i < SLOTS {
-        copy[i] = list[i];
-        i += 1;
-    }
-    copy
-}
-
-// An answer, with the settings where it is Taken.
-fn sheet_with(answer: Answer, settings: [u32; SLOTS]) -> Sheet
-    ensures { result ≡ sheet_with answer settings }
-{
-    if sheet::taken(answer) {
-        Sheet { answer, settings }
-    } else {
-        Sheet {
-            answer,
-            settings: [0u32; SLOTS],
-        }
-    }
-}
-
-// The whole check of a list of any length.
-pub fn check_sheet(list: &[u32]) -> Sheet
+// The whole check of a list of any length: the list as an array where it is taken.
+pub fn check_sheet(list: &[u32]) -> Result<[u32; SLOTS], Refusal>
     ensures each { result ≡ sheet_of list.now }
     ensures returned { reply_of result ≡ returned_of list.now }
-    ensures exactly { (result.answer ≡ Answer.Taken) ↔ Settings list.now }
+    ensures exactly { IsOk result ↔ Settings list.now }
 {
-    if list.len() != SLOTS {
-        return sheet_with(Answer::WrongLength, [0u32; SLOTS]);
-    }
-    let settings = copied(list);
-    sheet_with(judge(&settings), settings)
+    let Ok(settings) = <&[u32; SLOTS]>::try_from(list) else {
+        return Err(Refusal::WrongLength);
+    };
+    judge(settings)?;
+    Ok(*settings)
 }

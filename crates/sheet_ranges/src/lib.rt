@@ -60,12 +60,10 @@ pub fn first_out_of_range(s: &[u32; SLOTS]) -> usize
     let lows = times_k(LOW, k);
     let highs = times_k(HIGH, k);
     let steps = STEP;
-    let mut i: usize = 0;
-    while i < SLOTS {
+    for i in 0..SLOTS {
         if !in_range(lows[i], highs[i], steps[i], s[i]) {
             return i;
         }
-        i += 1;
     }
-    i
+    SLOTS
 }

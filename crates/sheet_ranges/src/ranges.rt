@@ -1,5 +1,6 @@
 // The fixed list of ranges: low, high and step of each slot. The current rows, 25 to 27, stand as for a 1 A module and are
 // times k; the impedance rows, 64 and 65, stand as for a 5 A module and are times 5 / k.
+// Three constant tables, of low, high and step, are the form that the tick's speed was measured with.
 use slots::SLOTS;
 
 pub const LOW: [u32; SLOTS] = [

@@ -6,7 +6,8 @@ use mathlib.Core.List.{List}
 use Prim.Native.Nat.{ℕ}
 use lib.Dec.{eqb}
 use Rattle.slots.specs.Slots.{slot, supply_trip, t7, t8}
-use Rattle.ways.specs.declared.Way.{Way}
+use Rattle.std.specs.Prelude.{Option}
+use Rattle.ways.specs.declared.Direction.{Direction}
 use Rattle.drive_follow.specs.Follow.{rests_of}
 use Rattle.fault.specs.Latches.{supply_of, field_of}
 use Rattle.drive_shown.specs.Shown.{on_of}
@@ -17,7 +18,7 @@ use Rattle.showing.specs.Showing.{is_low, is_high, counted_of, counts_of, signal
 
 -- what the outputs show
 module _ (s : List ℕ) (x : Shown) where
-  pub signals_made : {on : Way} {raise lower low high supply rests : Bool} {field operations : ℕ}
+  pub signals_made : {on : Option Direction} {raise lower low high supply rests : Bool} {field operations : ℕ}
       → on ≡ on_of x.drive (slot s t7)
       → raise ≡ raises on
       → lower ≡ lowers on

@@ -1,13 +1,14 @@
 -- The outputs of 01, by field. Definitions only.
-use Rattle.std.specs.Prelude.{ℕ, Bool, true, false, not, ◌&&◌, ◌||◌, List, [], ◌∷◌, get_or, leb, eqb}
+use Rattle.std.specs.Prelude.{ℕ, Bool, true, false, not, ◌&&◌, ◌||◌, List, [], ◌∷◌, get_or, leb, eqb, Option, None, Some}
 use Rattle.common.specs.Choice.{choose}
 use Rattle.slots.specs.Slots.{slot, supply_trip, wear_count, t7, t8, n_max}
 use Rattle.busbar_level.specs.declared.Level.{Level}
-use Rattle.busbar_level.specs.declared.Level.TheVariants.{Missing, Low, InBand, High}
+use Rattle.busbar_level.specs.declared.Level.TheVariants.{Low, InBand, High}
 use Rattle.drive_follow.specs.Follow.{rests_of}
 use Rattle.fault.specs.Latches.{supply_of, field_of}
 use Rattle.drive_shown.specs.Shown.{on_of}
 use Rattle.ways.specs.Ways.{raises, lowers}
+use Rattle.tap_position.specs.Positions.{tap_of, is_wrong_code, is_range_error}
 use Rattle.showing.specs.declared.Shown.{Shown}
 use Rattle.showing.specs.declared.Signals.{Signals}
 
@@ -20,17 +21,17 @@ abbrev pub bit_of : Bool → ℕ
 bit_of true = 1
 bit_of false = 0
 
-abbrev pub is_low : Level → Bool
-is_low Missing = false
-is_low Low = true
-is_low InBand = false
-is_low High = false
+abbrev pub is_low : Option Level → Bool
+is_low None = false
+is_low (Some Low) = true
+is_low (Some InBand) = false
+is_low (Some High) = false
 
-abbrev pub is_high : Level → Bool
-is_high Missing = false
-is_high Low = false
-is_high InBand = false
-is_high High = true
+abbrev pub is_high : Option Level → Bool
+is_high None = false
+is_high (Some Low) = false
+is_high (Some InBand) = false
+is_high (Some High) = true
 
 -- "25, 26 are 0 without slot 17"
 unfoldable pub counted_of : Bool → ℕ → ℕ
@@ -61,9 +62,9 @@ fields_of s x g =
     ∷ bit_of g.lower
     -- 2 section, 3 tap, 4 wrong code, 5 range error
     ∷ bit_of x.section
-    ∷ x.position.tap
-    ∷ bit_of x.position.wrong_code
-    ∷ bit_of (x.position.range_error || x.counted_error)
+    ∷ tap_of x.position
+    ∷ bit_of (is_wrong_code x.position)
+    ∷ bit_of (is_range_error x.position || x.counted_error)
     -- 6–12 trips
     ∷ bit_of (get_or x.trips 0 false)
     ∷ bit_of (get_or x.trips 1 false)

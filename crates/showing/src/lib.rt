@@ -9,7 +9,7 @@ use busbar_level::Level;
 use drive::Drive;
 use fault::Latch;
 use slots::{N_MAX, SLOTS, SUPPLY_TRIP, T7, T8, WEAR_COUNT};
-use tap_position::Position;
+use tap_position::TapError;
 
 // The number of output fields.
 pub const FIELDS: usize = 28;
@@ -19,37 +19,27 @@ pub const FIELDS: usize = 28;
 pub struct Shown {
     pub automatic: bool,
     pub section: bool,
-    pub position: Position,
+    pub position: Result<u32, TapError>,
     pub counted_error: bool,
     pub trips: [bool; 7],
     pub blocks: Blocks,
-    pub level: Level,
+    pub level: Option<Level>,
     pub latch: Latch,
     pub before: u32,
     pub drive: Drive,
     pub operations: u32,
 }
 
-fn is_low(l: Level) -> bool
+fn is_low(l: Option<Level>) -> bool
     ensures { result ≡ is_low l }
 {
-    match l {
-        Level::Missing => false,
-        Level::Low => true,
-        Level::InBand => false,
-        Level::High => false,
-    }
+    l == Some(Level::Low)
 }
 
-fn is_high(l: Level) -> bool
+fn is_high(l: Option<Level>) -> bool
     ensures { result ≡ is_high l }
 {
-    match l {
-        Level::Missing => false,
-        Level::Low => false,
-        Level::InBand => false,
-        Level::High => true,
-    }
+    l == Some(Level::High)
 }
 
 // The operations, shown as 0 where the wear count is off.
@@ -75,28 +65,17 @@ struct Signals {
 fn signals_of(s: &[u32; SLOTS], x: Shown) -> Signals
     ensures { result ≡ signals_of s.now x }
 {
-    let d = x.drive;
-    let latch = x.latch;
-    let fault = latch.fault;
-    let level = x.level;
-    let on = drive_shown::command_on(d, s[T7]);
-    let raise = ways::to_raise(on);
-    let lower = ways::to_lower(on);
-    let low = is_low(level);
-    let high = is_high(level);
-    let field = fault::fault_field(fault);
-    let supply = fault_latch::supply_trip(fault, x.before, s[T8], s[SUPPLY_TRIP] == 1);
-    let rests = drive_follow::rests(d);
-    let operations = shown_operations(s[WEAR_COUNT] == 1, x.operations);
+    let on = drive_shown::command_on(x.drive, s[T7]);
+    let fault = x.latch.fault;
     Signals {
-        raise: raise,
-        lower: lower,
-        low: low,
-        high: high,
-        field: field,
-        supply: supply,
-        rests: rests,
-        operations: operations,
+        raise: ways::to_raise(on),
+        lower: ways::to_lower(on),
+        low: is_low(x.level),
+        high: is_high(x.level),
+        field: fault::fault_field(fault),
+        supply: fault_latch::supply_trip(fault, x.before, s[T8], s[SUPPLY_TRIP] == 1),
+        rests: drive_follow::rests(x.drive),
+        operations: shown_operations(s[WEAR_COUNT] == 1, x.operations),
     }
 }
 
@@ -104,15 +83,18 @@ fn fields(s: &[u32; SLOTS], x: Shown, g: Signals) -> [u32; FIELDS]
     ensures { result ≡ fields_of s.now x g }
 {
     let p = x.position;
+    let tap = p.unwrap_or(0);
+    let wrong_code = p == Err(TapError::WrongCode);
+    let range_error = p == Err(TapError::OutOfRange);
     let t = x.trips;
     let b = x.blocks;
     [
         g.raise as u32, // 0 raise
         g.lower as u32, // 1 lower
         x.section as u32, // 2 section
-        p.tap, // 3 tap
-        p.wrong_code as u32, // 4 wrong code
-        (p.range_error | x.counted_error) as u32, // 5 range error
+        tap, // 3 tap
+        wrong_code as u32, // 4 wrong code
+        (range_error | x.counted_error) as u32, // 5 range error
         t[0] as u32, // 6 I_high over I_set1
         t[1] as u32, // 7 I_bus over I_set2
         t[2] as u32, // 8 I_bus under I_set3
@@ -142,6 +124,5 @@ fn fields(s: &[u32; SLOTS], x: Shown, g: Signals) -> [u32; FIELDS]
 pub fn show(s: &[u32; SLOTS], x: Shown) -> [u32; FIELDS]
     ensures { result ≡ outputs_of s.now x }
 {
-    let g = signals_of(s, x);
-    fields(s, x, g)
+    fields(s, x, signals_of(s, x))
 }

@@ -1,15 +1,14 @@
 -- The worked values that 01 marks with a star, as one list with one statement.
-use Rattle.std.specs.Prelude.{◌≡◌, refl, Bool, true, List, [], ◌∷◌, ◌++◌, map, ℕ, ◌-◌, set, replicate}
+use Rattle.std.specs.Prelude.{◌≡◌, refl, Bool, true, List, [], ◌∷◌, ◌++◌, Option, map, ℕ, ◌-◌, ℤ, set, replicate}
 use Rattle.std.specs.Float.Ieee.{of_bits}
 use Rattle.slots.specs.Slots.{t1}
 use Rattle.measure.specs.Stars as reading-stars
 use Rattle.measure.specs.declared.Measured.{Measured}
-use Rattle.busbar_current.specs.declared.Value.{Value}
 use Rattle.busbar_compensation.specs.Stars as voltage-stars
 use Rattle.busbar_level.specs.declared.Level.{Level}
 use Rattle.busbar_deviation.specs.Stars as level-stars
 use Rattle.tap_position.specs.Stars as tap-stars
-use Rattle.tap_position.specs.declared.Position.{Position}
+use Rattle.tap_position.specs.Positions.{Position}
 use Rattle.organ.specs.Stars as organ-stars
 use Rattle.claim.specs.Claim.{Tick, output}
 use Rattle.rules.specs.Lists.{ticks_from}
@@ -28,8 +27,8 @@ pub data Star : Type 0 where
 
 pub data Shown : Type 0 where
   reading : Measured → Shown
-  level : Level → Shown
-  voltage : Value → Shown
+  level : Option Level → Shown
+  voltage : Option ℤ → Shown
   tap : Position → Shown
   organ : Bool → Shown
   raising : List ℕ → Shown

@@ -1,11 +1,9 @@
 -- Rule 7 of 01: the counted tap's step. Definitions only.
-use Rattle.std.specs.Prelude.{ℕ, ◌+◌, ◌-◌, Bool, true, false, not, ◌||◌, List, ltb, eqb}
+use Rattle.std.specs.Prelude.{ℕ, ◌+◌, ◌-◌, Bool, true, false, not, ◌||◌, List, ltb, eqb, Option, None, Some}
 use Rattle.common.specs.Choice.{choose}
 use Rattle.slots.specs.Slots.{slot, tap_source, n_l, n_r}
 use Rattle.ways.specs.declared.Direction.{Direction}
 use Rattle.ways.specs.declared.Direction.TheVariants.{Raise, Lower}
-use Rattle.ways.specs.declared.Way.{Way}
-use Rattle.ways.specs.declared.Way.TheVariants.{Neither, To}
 use Rattle.tap_counted.specs.declared.Counted.{Counted}
 
 -- a counted tap, with or without a range error
@@ -28,10 +26,10 @@ unfoldable pub step_of : List ℕ → ℕ → Direction → Counted
 step_of s tap d = choose (is_up d (eqb (slot s tap_source) 4)) (up_of tap (slot s n_r)) (down_of tap (slot s n_l))
 
 -- after a tick on which a move ended, or none
-unfoldable pub moved_of : List ℕ → ℕ → Way → Counted
-moved_of s tap Neither = tap_of tap false
-moved_of s tap (To d) = step_of s tap d
+unfoldable pub moved_of : List ℕ → ℕ → Option Direction → Counted
+moved_of s tap None = tap_of tap false
+moved_of s tap (Some d) = step_of s tap d
 
 -- "if slot 5 is 3 or 4"
-unfoldable pub counted_of : List ℕ → ℕ → Way → Counted
+unfoldable pub counted_of : List ℕ → ℕ → Option Direction → Counted
 counted_of s tap ended = choose (eqb (slot s tap_source) 3 || eqb (slot s tap_source) 4) (moved_of s tap ended) (tap_of tap false)

@@ -2,10 +2,10 @@
 #![tactic(auto)]
 
 ghost use Rattle.std.specs.Prelude.{◌≡◌};
-ghost use Rattle.tap_counted.specs.Counted.{up_of, down_of, is_up, step_of, moved_of, counted_of};
+ghost use Rattle.tap_counted.specs.Counted.{tap_of, is_up, step_of, moved_of, counted_of};
 
 use slots::{N_L, N_R, SLOTS, TAP_SOURCE};
-use ways::{Direction, Way};
+use ways::Direction;
 
 // The counted tap after the tick; range error where the step was past an end.
 #[derive(Clone, Copy)]
@@ -14,49 +14,11 @@ pub struct Counted {
     pub range_error: bool,
 }
 
-// One step up, unless past the upper end.
-fn step_up(tap: u32, end: u32) -> Counted
-    ensures { result ≡ up_of tap end }
+// A counted tap that no step changes, or that a step past an end leaves.
+fn at(tap: u32, range_error: bool) -> Counted
+    ensures { result ≡ tap_of tap range_error }
 {
-    if tap < end {
-        Counted {
-            tap: tap + 1,
-            range_error: false,
-        }
-    } else {
-        Counted {
-            tap: tap,
-            range_error: true,
-        }
-    }
-}
-
-// One step down, unless past the lower end.
-fn step_down(tap: u32, end: u32) -> Counted
-    ensures { result ≡ down_of tap end }
-{
-    if end < tap {
-        Counted {
-            tap: tap - 1,
-            range_error: false,
-        }
-    } else {
-        Counted {
-            tap: tap,
-            range_error: true,
-        }
-    }
-}
-
-// The step of a move: up by a raise, down where the count is reversed.
-fn step_by(s: &[u32; SLOTS], tap: u32, d: Direction) -> Counted
-    ensures { result ≡ step_of s.now tap d }
-{
-    if is_up(d, s[TAP_SOURCE] == 4) {
-        step_up(tap, s[N_R])
-    } else {
-        step_down(tap, s[N_L])
-    }
+    Counted { tap, range_error }
 }
 
 fn is_up(d: Direction, reversed: bool) -> bool
@@ -68,29 +30,44 @@ fn is_up(d: Direction, reversed: bool) -> bool
     }
 }
 
-fn after_move(s: &[u32; SLOTS], tap: u32, ended: Way) -> Counted
+// The step of a move: up by a raise, down where the count is reversed, unless past an end.
+#[tactic(auto, using(common::proofs::Cases::cases), unfolding(crate::specs::Counted::step_of, crate::specs::Counted::up_of, crate::specs::Counted::down_of))]
+fn step_by(s: &[u32; SLOTS], tap: u32, d: Direction) -> Counted
+    ensures { result ≡ step_of s.now tap d }
+{
+    if is_up(d, s[TAP_SOURCE] == 4) {
+        if tap < s[N_R] {
+            at(tap + 1, false)
+        } else {
+            at(tap, true)
+        }
+    } else if s[N_L] < tap {
+        at(tap - 1, false)
+    } else {
+        at(tap, true)
+    }
+}
+
+// After a tick on which a move ended, or none.
+#[tactic(auto, using(crate::proofs::Steps::steps))]
+fn after_move(s: &[u32; SLOTS], tap: u32, ended: Option<Direction>) -> Counted
     ensures { result ≡ moved_of s.now tap ended }
 {
     match ended {
-        Way::Neither => Counted {
-            tap: tap,
-            range_error: false,
-        },
-        Way::To(d) => step_by(s, tap, d),
+        None => at(tap, false),
+        Some(d) => step_by(s, tap, d),
     }
 }
 
 // The counted tap after the tick, on which the move `ended`, or none.
-pub fn count_move(s: &[u32; SLOTS], tap: u32, ended: Way) -> Counted
+#[tactic(auto, using(common::proofs::Cases::cases), unfolding(crate::specs::Counted::counted_of))]
+pub fn count_move(s: &[u32; SLOTS], tap: u32, ended: Option<Direction>) -> Counted
     ensures { result ≡ counted_of s.now tap ended }
 {
     let source = s[TAP_SOURCE];
     if (source == 3) | (source == 4) {
         after_move(s, tap, ended)
     } else {
-        Counted {
-            tap: tap,
-            range_error: false,
-        }
+        at(tap, false)
     }
 }

@@ -1,9 +1,9 @@
 -- The worked values of the tap, as one list and one statement (01, 'Bench values').
-use Rattle.std.specs.Prelude.{◌≡◌, refl, true, false, List, [], ◌∷◌, map, ℕ, set, replicate}
+use Rattle.std.specs.Prelude.{◌≡◌, refl, Err, List, [], ◌∷◌, map, ℕ, set, replicate}
 use Rattle.common.specs.Choice.{choose}
 use Rattle.slots.specs.Slots.{slots, tap_source, n_l, n_r}
-use Rattle.tap_position.specs.declared.Position.{Position}
-use Rattle.tap_position.specs.Positions.{plain_of, ranged_of, bcd_of, position_of}
+use Rattle.tap_position.specs.declared.TapError.TheVariants.{WrongCode}
+use Rattle.tap_position.specs.Positions.{Position, plain_of, ranged_of, bcd_of, position_of}
 
 -- BCD lines, and the position that they give where N_L is 1 and N_R 40
 pub data Star : Type 0 where
@@ -13,7 +13,7 @@ abbrev settings : List ℕ
 settings = set (set (set (replicate slots 0) tap_source 1) n_l 1) n_r 40
 
 abbrev pub stars : List Star
-stars = star 0x24 (plain_of 24) ∷ star 0x1A (record { tap = 0; wrong_code = true; range_error = false }) ∷ []
+stars = star 0x24 (plain_of 24) ∷ star 0x1A (Err WrongCode) ∷ []
 
 abbrev pub expected : Star → Position
 expected (star b p) = p

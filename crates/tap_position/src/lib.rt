@@ -6,71 +6,50 @@ ghost use Rattle.tap_position.specs.Positions.{ranged_of, bcd_of, position_of};
 
 use slots::{N_L, N_R, SLOTS, TAP_SOURCE};
 
-// The tap's number, 0 where there is none, with what is wrong about it.
-#[derive(Clone, Copy)]
-pub struct Position {
-    pub tap: u32,
-    pub wrong_code: bool,
-    pub range_error: bool,
+// Why a source gives no tap.
+#[derive(Clone, Copy, PartialEq, Eq)]
+pub enum TapError {
+    // Units above 9 on the BCD lines.
+    WrongCode,
+    // Outside N_L to N_R.
+    OutOfRange,
 }
 
-// A number that was read: range error outside N_L to N_R.
-fn ranged(s: &[u32; SLOTS], n: u32) -> Position
+// A number that was read.
+#[tactic(auto, using(common::proofs::Cases::cases), unfolding(crate::specs::Positions::ranged_of))]
+fn ranged(s: &[u32; SLOTS], n: u32) -> Result<u32, TapError>
     ensures { result ≡ ranged_of s.now n }
 {
     if (s[N_L] <= n) & (n <= s[N_R]) {
-        Position {
-            tap: n,
-            wrong_code: false,
-            range_error: false,
-        }
+        Ok(n)
     } else {
-        Position {
-            tap: 0,
-            wrong_code: false,
-            range_error: true,
-        }
+        Err(TapError::OutOfRange)
     }
 }
 
 // The BCD lines: bits 0 to 3 are the units, 4 to 6 the tens.
-fn from_bcd(s: &[u32; SLOTS], lines: u8) -> Position
+#[tactic(auto, using(common::proofs::Cases::cases), unfolding(crate::specs::Positions::bcd_of))]
+fn from_bcd(s: &[u32; SLOTS], lines: u8) -> Result<u32, TapError>
     ensures { result ≡ bcd_of s.now lines }
 {
     let units = (lines % 16) as u32;
     let tens = (lines / 16 % 8) as u32;
     if 9 < units {
-        Position {
-            tap: 0,
-            wrong_code: true,
-            range_error: false,
-        }
+        Err(TapError::WrongCode)
     } else {
         ranged(s, 10 * tens + units)
     }
 }
 
-// Rule 4. `counted` is the counted tap as the tick starts.
-pub fn read_position(s: &[u32; SLOTS], bcd: u8, sensor: u8, counted: u32) -> Position
+// Rule 4: the tap, 0 where none is read. `counted` is the counted tap as the tick starts.
+#[tactic(auto, using(common::proofs::Cases::cases), unfolding(crate::specs::Positions::position_of))]
+pub fn read_position(s: &[u32; SLOTS], bcd: u8, sensor: u8, counted: u32) -> Result<u32, TapError>
     ensures { result ≡ position_of s.now bcd sensor counted }
 {
-    let source = s[TAP_SOURCE];
-    if source == 1 {
-        return from_bcd(s, bcd);
-    }
-    if source == 2 {
-        return ranged(s, sensor as u32);
-    }
-    if (source == 3) | (source == 4) {
-        return Position {
-            tap: counted,
-            wrong_code: false,
-            range_error: false,
-        };
-    }
-    Position {
-        tap: 0,
-        wrong_code: false,
-        range_error: false,
+    match s[TAP_SOURCE] {
+        1 => from_bcd(s, bcd),
+        2 => ranged(s, sensor as u32),
+        3 | 4 => Ok(counted),
+        _ => Ok(0),
     }
 }

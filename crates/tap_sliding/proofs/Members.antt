@@ -1,24 +1,21 @@
--- Whether a tap stands in a slot for sliding taps, found by a loop.
+-- Whether a tap stands in a slot for sliding taps, as the library's search of the slots finds it.
 -- Assumes nothing.
-use mathlib.Core.Path.{◌≡◌, refl}
-use mathlib.Core.Bool.{Bool, false, not, ◌&&◌, ◌||◌}
-use mathlib.Core.List.{List}
-use Prim.Native.Nat.{ℕ, ◌+◌, ◌≤◌}
-use native.Mathlib.Numerals.{add-one}
-use native.Mathlib.Omega.{arith}
-use lib.Dec.{eqb}
-use Rattle.slots.specs.Slots.{slot, sliding_taps}
+use Rattle.std.proofs.Common.{◌≡◌, refl, Bool, not, ◌&&◌, List, ℕ, zero, suc, ◌+◌, ◌<◌, ◌≤◌, add-one, arith, length, take, drop, nat_eq, length-drop}
+use Rattle.std.specs.List.{list_any}
+use Rattle.std.proofs.lemmas.List.{get_or-drop}
+use Rattle.std.proofs.lemmas.List.Folds.{list_any_more}
+use Rattle.slots.specs.Slots.{sliding_taps}
 use Rattle.tap_sliding.specs.Sliding.{sliding, stands_in, sliding_of}
 
 module _ (s : List ℕ) (tap : ℕ) where
-  pub stands_none : false ≡ stands_in s tap 0
+  stands_lem : (n : ℕ) → sliding_taps + n ≤ length s → list_any (λ y. nat_eq y tap) (take n (drop sliding_taps s)) ≡ stands_in s tap n
   unfolding stands_in
-  stands_none = refl
+  stands_lem zero h = refl
+  stands_lem (suc n) h =
+      let l : n < length (drop sliding_taps s) = omega (arith, length-drop {A = ℕ}) in
+      rw (← add-one, list_any_more (λ y. nat_eq y tap) (drop sliding_taps s) n 0 l, get_or-drop, stands_lem n (omega arith))
 
-  pub stands_more : (found : Bool) (i : ℕ) → found ≡ stands_in s tap i → (found || eqb (slot s (sliding_taps + i)) tap) ≡ stands_in s tap (i + 1)
-  unfolding stands_in
-  stands_more found i e = rw (add-one, e)
-
-  pub stands_all : (found : Bool) (i : ℕ) → found ≡ stands_in s tap i → i ≤ sliding → sliding ≤ i → (found && not (eqb tap 0)) ≡ sliding_of s tap
+  pub stands_found : (found : Bool) → length s ≡ 68 → found ≡ list_any (λ y. nat_eq y tap) (take sliding (drop sliding_taps s))
+      → (found && not (nat_eq tap 0)) ≡ sliding_of s tap
   unfolding sliding_of
-  stands_all found i e h k = let all : i ≡ sliding = omega arith in rw (e, all)
+  stands_found found l e = rw (e, stands_lem sliding (omega arith))

@@ -10,14 +10,9 @@ use slots::{SLIDING_TAPS, SLOTS};
 const SLIDING: usize = 10;
 
 // Whether the tap is a sliding one. Tap 0 is none, so that it matches no empty slot.
+#[tactic(auto, using(crate::proofs::Members::stands_found))]
 pub fn is_sliding(s: &[u32; SLOTS], tap: u32) -> bool
     ensures { result ≡ sliding_of s.now tap }
 {
-    let mut found = false;
-    let mut i: usize = 0;
-    while i < SLIDING {
-        found = found | (s[SLIDING_TAPS + i] == tap);
-        i += 1;
-    }
-    found & (tap != 0)
+    s[SLIDING_TAPS..SLIDING_TAPS + SLIDING].contains(&tap) & (tap != 0)
 }

@@ -1,8 +1,8 @@
 // Checksums over generated numbers, which look like chance.
 ghost use Rattle.std.specs.Prelude.{◌≡◌, ◌+◌, ◌*◌, ◌%◌};
 
-use crate::{drops, print, readings};
-use busbar_current::Value;
+use crate::rows::Kind;
+use crate::{drops, readings};
 use measure::Reading;
 use recording_numbers::float_of;
 
@@ -31,13 +31,13 @@ fn next(seed: u64) -> u64 {
 
 // The next six.
 fn next_six(seed: u64) -> [u64; 6] {
-    let a = next(seed);
-    let b = next(a);
-    let c = next(b);
-    let d = next(c);
-    let e = next(d);
-    let f = next(e);
-    [a, b, c, d, e, f]
+    let mut six = [0u64; 6];
+    let mut last = seed;
+    for n in six.iter_mut() {
+        last = next(last);
+        *n = last;
+    }
+    six
 }
 
 // Any pattern on each third turn, and on the others a number from 2^-11 to below 2^19.
@@ -58,45 +58,42 @@ fn signed_pattern(i: u64, seed: u64) -> u32 {
 }
 
 // The value of one turn.
-fn value_at(kind: u8, i: u64, n: [u64; 6]) -> Value {
+fn value_at(kind: Kind, i: u64, n: [u64; 6]) -> Option<i64> {
     let c = readings::channel(i);
     match kind {
-        b'R' => readings::measured(c, Reading::Good(float_of(pattern(i, n[0])))),
-        b'P' => readings::part(c, float_of(signed_pattern(i, n[0]))),
-        b'A' => drops::chance_along(n),
+        Kind::ManyReadings => readings::measured(c, Reading::Good(float_of(pattern(i, n[0])))),
+        Kind::ManyParts => readings::part(c, float_of(signed_pattern(i, n[0]))),
+        Kind::ManyAlong => drops::chance_along(n),
         _ => drops::chance_compensated(n),
     }
 }
 
 // What a number adds to the checksum: one below 0 half a million more, and a drop by U_comp an even number, or an odd one where it is
 // below 0.
-fn weight_of(kind: u8, z: i64) -> u64 {
-    let n = print::size(z) % 0x80_0000_0000;
-    let drop = kind == b'D';
+fn weight_of(kind: Kind, z: i64) -> u64 {
+    let n = z.unsigned_abs() % 0x80_0000_0000;
+    let drop = kind == Kind::ManyCompensated;
     if z < 0 {
         return if drop { 3 + 2 * n } else { 500_000 + n };
     }
     if drop { 2 + 2 * n } else { 2 + n }
 }
 
-fn weight(kind: u8, v: Value) -> u64 {
+fn weight(kind: Kind, v: Option<i64>) -> u64 {
     match v {
-        Value::Missing => 1,
-        Value::Is(z) => weight_of(kind, z),
+        None => 1,
+        Some(z) => weight_of(kind, z),
     }
 }
 
 // One turn. Readings and parts take one number of the row, and the others six.
-pub(crate) fn generated(kind: u8, i: u64, t: Turn) -> Turn {
+pub(crate) fn generated(kind: Kind, i: u64, t: Turn) -> Turn {
     let n = next_six(t.seed);
     let sum = add(t.sum, weight(kind, value_at(kind, i, n)));
-    let seed = if (kind == b'R') | (kind == b'P') {
+    let seed = if matches!(kind, Kind::ManyReadings | Kind::ManyParts) {
         n[0]
     } else {
         n[5]
     };
-    Turn {
-        seed: seed,
-        sum: sum,
-    }
+    Turn { seed, sum }
 }

@@ -2,7 +2,6 @@
 ghost use Rattle.std.specs.Prelude.{◌<◌};
 
 use crate::rows::Row;
-use busbar_current::Value;
 use measure::{Measured, Reading};
 use phasor::{Phasor, Phasors};
 
@@ -23,34 +22,31 @@ fn part(minus: bool, size: u32) -> Reading {
 }
 
 // U with a 5 A module, the current being bus + coupler.
-fn voltage_along(r: u32, x: u32, u_ab: Phasor, i_bus: Phasor, i_coupler: Phasor) -> Value {
+fn voltage_along(r: u32, x: u32, u_ab: Phasor, i_bus: Phasor, i_coupler: Phasor) -> Option<i64> {
     let mut s = [0u32; slots::SLOTS];
     s[slots::MODULE] = 1;
     s[slots::COMPENSATION_CURRENT] = 3;
     s[slots::RESISTANCE] = r;
     s[slots::REACTANCE] = x;
     let p = Phasors {
-        u_ab: u_ab,
-        i_bus: i_bus,
-        i_coupler: i_coupler,
+        u_ab,
+        i_bus,
+        i_coupler,
     };
     line::voltage(&s, p)
 }
 
 // What is left of a part without the coupler's share.
 fn rest(size: u32, share: u32) -> u32 {
-    if size < share {
-        return 0;
-    }
-    size - share
+    size.saturating_sub(share)
 }
 
 fn pair(re: Reading, im: Reading) -> Phasor {
-    Phasor { re: re, im: im }
+    Phasor { re, im }
 }
 
 // A row: R and X, the parts of U_AB and of the current; and the coupler's share of the current's parts.
-pub(crate) fn along(w: Row) -> Value {
+pub(crate) fn along(w: Row) -> Option<i64> {
     let n = w.numbers;
     let minus = w.minus;
     let u_ab = pair(part(minus[2], n[2]), part(minus[3], n[3]));
@@ -79,7 +75,7 @@ fn chance_part(n: u64) -> Reading {
     part(false, d - HIGHEST)
 }
 
-pub(crate) fn chance_along(n: [u64; 6]) -> Value {
+pub(crate) fn chance_along(n: [u64; 6]) -> Option<i64> {
     let u_ab = pair(chance_part(n[2]), chance_part(n[3]));
     let i_bus = pair(chance_part(n[4]), chance_part(n[5]));
     let i_coupler = pair(part(false, 0), part(false, 0));
@@ -88,7 +84,7 @@ pub(crate) fn chance_along(n: [u64; 6]) -> Value {
 
 // U by the module's slot, U_comp, the current transformer's rating and the breaker's, U_AB, I_bus and I_coupler; the current is
 // bus - coupler.
-fn voltage_by(n: [u32; 7]) -> Value {
+fn voltage_by(n: [u32; 7]) -> Option<i64> {
     let mut s = [0u32; slots::SLOTS];
     s[slots::MODULE] = n[0];
     s[slots::COMPENSATION] = 1;
@@ -103,13 +99,13 @@ fn voltage_by(n: [u32; 7]) -> Value {
 // A current, and the difference more where it is the larger of the two.
 fn current(smaller: u32, difference: u32, larger: bool) -> u32 {
     if larger {
-        return std::num::wrapping_add_u32(smaller, difference);
+        return smaller.wrapping_add(difference);
     }
     smaller
 }
 
 // A row: the same numbers, but the difference of the two currents for the first of them, and the smaller one for the other.
-pub(crate) fn compensated(w: Row) -> Value {
+pub(crate) fn compensated(w: Row) -> Option<i64> {
     let n = w.numbers;
     let minus = w.minus[5];
     let i_bus = current(n[6], n[5], !minus);
@@ -125,7 +121,7 @@ const RATINGS: u64 = 20_000;
 const READINGS: u64 = 200_001;
 
 // With a 5 A module.
-pub(crate) fn chance_compensated(n: [u64; 6]) -> Value {
+pub(crate) fn chance_compensated(n: [u64; 6]) -> Option<i64> {
     let u_comp = 1000 + 100 * (n[0] % STEPS) as u32;
     let ct = 1 + (n[1] % RATINGS) as u32;
     let breaker = 1 + (n[2] % RATINGS) as u32;

@@ -10,23 +10,21 @@ mod readings;
 mod rows;
 mod sheets;
 
-use busbar_current::Value;
 use chance::Turn;
 use measure::Reading;
-use rows::Row;
+use rows::{Kind, Row};
 use std::io;
 
 // What is asked of a row, where it is one value.
-fn value_of(r: Row) -> Value {
-    let kind = r.kind;
+fn value_of(r: Row) -> Option<i64> {
     let c = readings::limited_to(r.numbers[0]);
     let x = recording_numbers::float_of(r.numbers[1]);
-    match kind {
-        b'r' => readings::measured(c, Reading::Good(x)),
-        b'h' => readings::measured(c, Reading::Held(x)),
-        b'p' => readings::part(c, x),
-        b'q' => Value::Is((root::root(r.last) % 0x1_0000_0000) as i64),
-        b'a' => drops::along(r),
+    match r.kind {
+        Kind::Reading => readings::measured(c, Reading::Good(x)),
+        Kind::HeldReading => readings::measured(c, Reading::Held(x)),
+        Kind::Part => readings::part(c, x),
+        Kind::Root => Some((root::root(r.last) % 0x1_0000_0000) as i64),
+        Kind::Along => drops::along(r),
         _ => drops::compensated(r),
     }
 }
@@ -36,47 +34,43 @@ const BYTES: usize = 256;
 
 // One turn of a row that has many.
 fn turned<R: Print>(rt: &R, bytes: &[u8], r: Row, t: Turn, i: usize) -> io::Result<Turn> {
-    let kind = r.kind;
-    match kind {
-        b'f' => readings::print_front(rt, r, (i % BYTES) as u8)?,
-        b'b' => sheets::print_code(rt, bytes, r, (i % BYTES) as u8)?,
-        b't' => return sheets::tried(rt, bytes, r, t, i),
-        _ => return Ok(chance::generated(kind, i as u64, t)),
+    match r.kind {
+        Kind::Front => readings::print_front(rt, r, (i % BYTES) as u8)?,
+        Kind::Codes => sheets::print_code(rt, bytes, r, (i % BYTES) as u8)?,
+        Kind::Slots => return sheets::tried(rt, bytes, r, t, i),
+        _ => return Ok(chance::generated(r.kind, i as u64, t)),
     }
     Ok(t)
 }
 
 fn print_turns<R: Print>(rt: &R, bytes: &[u8], r: Row, turns: usize) -> io::Result<Turn> {
     let mut t = chance::START;
-    let mut i: usize = 0;
-    while i < turns {
+    for i in 0..turns {
         t = turned(rt, bytes, r, t, i)?;
-        i += 1;
     }
     Ok(t)
 }
 
 // What a row prints. One that keeps or sets numbers, and one without a letter, print nothing.
 fn print_row<R: Print>(rt: &R, bytes: &[u8], r: Row) -> io::Result<()> {
-    let kind = r.kind;
-    match kind {
-        b'-' | b'k' | b'c' => {}
-        b's' => sheets::print_answer(rt, bytes, r)?,
-        b't' => {
+    match r.kind {
+        Kind::Nothing | Kind::Keep | Kind::Change => {}
+        Kind::Sheet => sheets::print_answer(rt, bytes, r)?,
+        Kind::Slots => {
             print_turns(rt, bytes, r, sheets::TURNS)?;
         }
-        b'b' => {
+        Kind::Codes => {
             print_turns(rt, bytes, r, BYTES)?;
         }
-        b'f' => {
+        Kind::Front => {
             rows::print_text(rt, bytes, r)?;
             print_turns(rt, bytes, r, BYTES)?;
-            print::text(rt, b"\n")?;
+            println!(rt)?;
         }
-        b'R' | b'P' | b'A' | b'D' => {
+        Kind::ManyReadings | Kind::ManyParts | Kind::ManyAlong | Kind::ManyCompensated => {
             rows::print_text(rt, bytes, r)?;
-            let t = print_turns(rt, bytes, r, r.numbers[0] as usize)?;
-            print::last(rt, t.sum)?;
+            let sum = print_turns(rt, bytes, r, r.numbers[0] as usize)?.sum;
+            println!(rt; "{sum}")?;
         }
         _ => {
             rows::print_text(rt, bytes, r)?;

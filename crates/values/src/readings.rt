@@ -1,10 +1,8 @@
 // Readings and parts of pairs by their bit patterns, and the first step of a conversion.
-use crate::print;
 use crate::rows::Row;
-use busbar_current::Value;
 use measure::{Channel, Measured, Reading};
 use measure_front::{Front, Quality};
-use phasor::{Phasor, Vector};
+use phasor::Phasor;
 use std::io;
 
 // The limit of a 1 A module's current, and of nothing else.
@@ -26,22 +24,18 @@ pub(crate) fn channel(n: u64) -> Channel {
     }
 }
 
-pub(crate) fn measured(c: Channel, r: Reading) -> Value {
+pub(crate) fn measured(c: Channel, r: Reading) -> Option<i64> {
     match measure_reading::measure(c, r) {
-        Measured::Good(n) => Value::Is(n as i64),
-        Measured::Held(n) => Value::Is(n as i64),
-        Measured::Missing => Value::Missing,
+        Measured::Good(n) | Measured::Held(n) => Some(n as i64),
+        Measured::Missing => None,
     }
 }
 
 // The real part of the pair of a float and 0.
-pub(crate) fn part(c: Channel, x: f32) -> Value {
+pub(crate) fn part(c: Channel, x: f32) -> Option<i64> {
     let re = Reading::Good(x);
     let im = Reading::Good(0.0);
-    match phasor::measure_pair(c, Phasor { re: re, im: im }) {
-        Vector::Missing => Value::Missing,
-        Vector::Is { re, im: _ } => Value::Is(re),
-    }
+    phasor::measure_pair(c, Phasor { re, im }).map(|v| v.re)
 }
 
 fn quality_of(n: u32) -> Quality {
@@ -54,15 +48,12 @@ fn quality_of(n: u32) -> Quality {
 
 // 1 where the first step lets a number with this exponent pass, 0 where it is missing.
 pub(crate) fn print_front<R: Print>(rt: &R, r: Row, exponent: u8) -> io::Result<()> {
-    let quality = quality_of(r.numbers[2]);
     let f = Front {
-        quality: quality,
+        quality: quality_of(r.numbers[2]),
         minus: r.numbers[3] == 1,
-        exponent: exponent,
+        exponent,
     };
-    if measure_front::passes(channel(r.numbers[1] as u64), f) {
-        print::text(rt, b"1")
-    } else {
-        print::text(rt, b"0")
-    }
+    let passes = measure_front::passes(channel(r.numbers[1] as u64), f);
+    let digit = passes as u8;
+    print!(rt; "{digit}")
 }

@@ -1,30 +1,19 @@
 // The check of the setting sheet whose numbers are kept, and the codes of BCD lines. After the sheet's numbers stand those that are
 // tried at each slot.
 ghost use Rattle.std.specs.Prelude.{◌<◌};
-ghost use Rattle.files.specs.Counts.{IsPrefixLen};
 ghost use Rattle.slots.specs.Slots.{slots};
 
 use crate::chance::Turn;
 use crate::rows::{MOST, Row};
-use crate::{chance, print, rows};
-use sheet::Answer;
+use crate::{chance, rows};
+use sheet::Refusal;
 use slots::{N_L, N_R, SLOTS, TAP_SOURCE};
 use std::io;
+use tap_position::TapError;
 
-// So many numbers, or as many as there are.
-fn upto(list: &[u32], n: usize) -> usize
-    ensures { IsPrefixLen result list.now }
-{
-    if n < list.len() {
-        return n;
-    }
-    list.len()
-}
-
-// The answer to the first n numbers.
-fn judged(list: &[u32], n: usize) -> Answer {
-    let end = upto(list, n);
-    sheet_judging::check_sheet(&list[..end]).answer
+// The answer to the first n numbers, or to as many as there are.
+fn judged(list: &[u32], n: usize) -> Result<[u32; SLOTS], Refusal> {
+    sheet_judging::check_sheet(&list[..n.min(list.len())])
 }
 
 // The answer to as many of the kept numbers as the row says.
@@ -33,11 +22,11 @@ pub(crate) fn print_answer<R: Print>(rt: &R, bytes: &[u8], r: Row) -> io::Result
     if at >= MOST {
         return Ok(());
     }
-    let list = r.numbers;
-    let answer = judged(&list, r.numbers[at] as usize);
+    let answer = judged(&r.numbers, r.numbers[at] as usize);
+    let number = sheet::number(&answer);
+    let slot = sheet::slot(&answer);
     rows::print_text(rt, bytes, r)?;
-    print::field(rt, sheet::number(answer) as u64)?;
-    print::last(rt, sheet::slot(answer) as u64)
+    println!(rt; "{number} {slot}")
 }
 
 // What the answer's number counts for in the checksum.
@@ -50,8 +39,8 @@ fn weight(numbers: [u32; MOST], i: usize, x: u32) -> u64
     let mut list = numbers;
     list[i] = x;
     let answer = judged(&list, SLOTS);
-    let number = sheet::number(answer) as u64;
-    let slot = sheet::slot(answer) as u64;
+    let number = sheet::number(&answer) as u64;
+    let slot = sheet::slot(&answer) as u64;
     number * NUMBER + slot + 1
 }
 
@@ -67,13 +56,9 @@ pub(crate) fn tried<R: Print>(rt: &R, bytes: &[u8], r: Row, t: Turn, i: usize) -
     let sum = chance::add(t.sum, weight(numbers, slot, numbers[SLOTS + i % TRIED]));
     if i % TRIED == TRIED - 1 {
         rows::print_text(rt, bytes, r)?;
-        print::field(rt, slot as u64)?;
-        print::last(rt, sum)?;
+        println!(rt; "{slot} {sum}")?;
     }
-    Ok(Turn {
-        seed: t.seed,
-        sum: sum,
-    })
+    Ok(Turn { sum, ..t })
 }
 
 // The last tap.
@@ -87,8 +72,8 @@ pub(crate) fn print_code<R: Print>(rt: &R, bytes: &[u8], r: Row, lines: u8) -> i
     s[N_R] = LAST;
     let p = tap_position::read_position(&s, lines, 0, 20);
     rows::print_text(rt, bytes, r)?;
-    print::field(rt, lines as u64)?;
-    print::field(rt, p.tap as u64)?;
-    print::field(rt, p.wrong_code as u64)?;
-    print::last(rt, p.range_error as u64)
+    let tap = p.unwrap_or(0);
+    let wrong_code = (p == Err(TapError::WrongCode)) as u8;
+    let range_error = (p == Err(TapError::OutOfRange)) as u8;
+    println!(rt; "{lines} {tap} {wrong_code} {range_error}")
 }

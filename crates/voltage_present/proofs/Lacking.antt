@@ -18,12 +18,11 @@ use Rattle.measure.specs.declared.Reading.{Reading}
 use Rattle.measure.specs.declared.Reading.TheVariants.{Good, Held, Invalid}
 use Rattle.phasor.specs.declared.Phasor.{Phasor}
 use Rattle.phasor.specs.declared.Vector.{Vector}
-use Rattle.phasor.specs.declared.Vector.TheVariants as vector
-use Rattle.phasor.specs.Pairs as pairs
+use Rattle.std.specs.Prelude.{Option, None, Some}
 use Rattle.phasor.specs.Pairs.{part_in_range, signed_thousandths, part_of, fresh_by, fresh_of, paired_of, counted_of, vector_of}
 use Rattle.input.specs.Brought.{current_of}
 use Rattle.sheet_ranges.specs.Table.{module_factor}
-use Rattle.busbar_current.specs.Current.{number_of, good_of, is_missing}
+use Rattle.busbar_current.specs.Current.{number_of, good_of, is_missing, both}
 use Rattle.busbar_current.proofs.Facts.{no_cut_off}
 use Rattle.line_current.specs.Pair.{by_parts}
 use Rattle.line.specs.Along.{remains_of, magnitude_of}
@@ -52,11 +51,11 @@ reading_missing c r = ap is_missing (no_cut_off c r) ∙ uncut (limit_of c) r
 
 -- ---- a pair
 
-abbrev pub gone : Vector → Bool
-gone vector.Missing = true
-gone (vector.Is re im) = false
+abbrev pub gone : Option Vector → Bool
+gone None = true
+gone (Some v) = false
 
-parts_gone : (a b : Bool) (z w : ℤ) → gone (paired_of (pairs.if_in_range a z) (pairs.if_in_range b w)) ≡ (not a || not b)
+parts_gone : (a b : Bool) (z w : ℤ) → gone (paired_of (if_in_range a z) (if_in_range b w)) ≡ (not a || not b)
 unfolding paired_of
 parts_gone true true z w = refl
 parts_gone true false z w = refl
@@ -79,22 +78,22 @@ pub pair_gone : (l : ℕ) (p : Phasor) → gone (vector_of l p) ≡ parts_lack l
 unfolding vector_of fresh_of
 pair_gone l p = fresh_gone l p.re p.im
 
-pub parts_joined : (f : ℤ → ℤ → ℤ) (a b : Vector) → gone (by_parts f a b) ≡ (gone a || gone b)
-unfolding by_parts
-parts_joined f vector.Missing b = refl
-parts_joined f (vector.Is p q) vector.Missing = refl
-parts_joined f (vector.Is p q) (vector.Is x y) = refl
+pub parts_joined : (f : ℤ → ℤ → ℤ) (a b : Option Vector) → gone (by_parts f a b) ≡ (gone a || gone b)
+unfolding both
+parts_joined f None b = refl
+parts_joined f (Some v) None = refl
+parts_joined f (Some v) (Some w) = refl
 
-pub remains_gone : (r x : ℕ) (u i : Vector) → gone (remains_of r x u i) ≡ (gone u || gone i)
+pub remains_gone : (r x : ℕ) (u i : Option Vector) → gone (remains_of r x u i) ≡ (gone u || gone i)
 unfolding remains_of
-remains_gone r x vector.Missing i = refl
-remains_gone r x (vector.Is p q) vector.Missing = refl
-remains_gone r x (vector.Is p q) (vector.Is re im) = refl
+remains_gone r x None i = refl
+remains_gone r x (Some u) None = refl
+remains_gone r x (Some u) (Some i) = refl
 
-pub magnitude_missing : (v : Vector) → is_missing (magnitude_of v) ≡ gone v
+pub magnitude_missing : (v : Option Vector) → is_missing (magnitude_of v) ≡ gone v
 unfolding magnitude_of
-magnitude_missing vector.Missing = refl
-magnitude_missing (vector.Is re im) = refl
+magnitude_missing None = refl
+magnitude_missing (Some v) = refl
 
 -- ---- slot 4's choice, of numbers or of pairs
 

@@ -6,7 +6,7 @@ use mathlib.Core.Bool.{Bool, true, false, ◌&&◌, ◌||◌}
 use mathlib.Core.List.{List}
 use Prim.Native.Nat.{ℕ, ◌≤◌}
 use lib.Dec.{eqb}
-use lib.IntN.{◌-ℤ◌}
+use lib.IntN.{ℤ, ◌-ℤ◌}
 use Rattle.common.specs.Choice.{choose}
 use Rattle.common.proofs.Cases.{chosen}
 use Rattle.slots.specs.Slots.{slot, module_kind, compensation, compensation_current, d_u}
@@ -24,8 +24,7 @@ use Rattle.sheet_ranges.specs.Table.{row_of, row_in}
 use Rattle.sheet.specs.Sheet.{passes_of}
 use Rattle.sheet.proofs.Laws.{in_row}
 use Rattle.busbar_current.specs.Current.{good_of, is_missing, both, difference_of, picked_of, current_of}
-use Rattle.busbar_current.specs.declared.Value.{Value}
-use Rattle.busbar_current.specs.declared.Value.TheVariants.{Missing, Is}
+use Rattle.std.specs.Prelude.{Option, None, Some}
 use Rattle.busbar_current.proofs.Facts.{both_missing}
 use Rattle.busbar_compensation.specs.Voltage.{voltage_drop, voltage_of}
 use Rattle.busbar_compensation.proofs.Facts.{taken_drop}
@@ -44,7 +43,7 @@ use Rattle.voltage_present.specs.Needed.{missing_or_held, lacks, amperes_of, nam
 use Rattle.voltage_present.proofs.Lacking.{reading_missing, gone, parts_lack, pair_gone, parts_joined, remains_gone, magnitude_missing, or_false, picked_lost, range_by_k}
 
 -- the three ways of slot 3 in one: along the line's impedance (a), by U_comp (d) and without compensation (g alone)
-by_slot_3 : (comp along bus coupler pu pb pc ru rb rc : Bool) (a g d : Value) → is_missing a ≡ (pu || ((bus && pb) || (coupler && pc))) → is_missing g ≡ ru
+by_slot_3 : (comp along bus coupler pu pb pc ru rb rc : Bool) (a g d : Option ℤ) → is_missing a ≡ (pu || ((bus && pb) || (coupler && pc))) → is_missing g ≡ ru
     → is_missing d ≡ ((bus && rb) || (coupler && rc))
     → is_missing (choose along a (choose comp (difference_of g d) g))
     ≡ (choose along pu ru || ((comp || along) && ((bus && choose along pb rb) || (coupler && choose along pc rc))))
@@ -55,12 +54,10 @@ by_slot_3 true false bus coupler pu pb pc ru rb rc a g d ea eg ed = both_missing
 by_slot_3 false false bus coupler pu pb pc ru rb rc a g d ea eg ed = eg ∙ or_false ru
 
 -- what is not missing has a level
-level_missing : (s : List ℕ) (v : Value) (supp : ℕ) → levels.is_missing (level_of s v supp) ≡ is_missing v
-unfolding level_of band_of
-level_missing s Missing supp = refl
-level_missing s (Is u) supp =
-    chosen (λ (l : Level). levels.is_missing l ≡ false) (low_of u supp (slot s d_u)) _ _ (λ p. refl)
-    (λ p. chosen (λ (l : Level). levels.is_missing l ≡ false) (high_of u supp (slot s d_u)) _ _ (λ q. refl) (λ q. refl))
+level_missing : (s : List ℕ) (v : Option ℤ) (supp : ℕ) → levels.is_missing (level_of s v supp) ≡ is_missing v
+unfolding level_of
+level_missing s None supp = refl
+level_missing s (Some u) supp = refl
 
 module _ (s : List ℕ) (e : passes_of s ≡ true) where
   -- slot 4 has no other number
@@ -68,10 +65,10 @@ module _ (s : List ℕ) (e : passes_of s ≡ true) where
   unfolding row_of row_in choose
   four = (in_row s e 0 3 compensation_current refl).1
 
-  drop_missing : (v : Value) → is_missing (voltage_drop s v) ≡ is_missing v
+  drop_missing : (v : Option ℤ) → is_missing (voltage_drop s v) ≡ is_missing v
   unfolding voltage_drop
-  drop_missing Missing = refl
-  drop_missing (Is i) = ap is_missing (taken_drop s e i)
+  drop_missing None = refl
+  drop_missing (Some i) = ap is_missing (taken_drop s e i)
 
   -- a current, as a reading and as a pair, with the module's range
   amperes_missing : (r : Reading) → is_missing (good_of (measured_of (limit_of (brought.current_of (eqb (slot s module_kind) 1))) r)) ≡ missing_or_held (in_range (amperes_of s)) r

@@ -4,68 +4,43 @@
 ghost use Rattle.std.specs.Prelude.{◌≡◌};
 ghost use Rattle.ways.specs.Ways.{raises, lowers, is_to, newer_of, other_of};
 
-#[derive(Clone, Copy)]
+#[derive(Clone, Copy, PartialEq, Eq, Debug)]
 pub enum Direction {
     Raise,
     Lower,
 }
 
-// A direction, or none.
-#[derive(Clone, Copy)]
-pub enum Way {
-    Neither,
-    To(Direction),
-}
-
-pub fn to_raise(w: Way) -> bool
+pub fn to_raise(w: Option<Direction>) -> bool
     ensures { result ≡ raises w }
 {
-    match w {
-        Way::Neither => false,
-        Way::To(d) => match d {
-            Direction::Raise => true,
-            Direction::Lower => false,
-        },
-    }
+    w == Some(Direction::Raise)
 }
 
-pub fn to_lower(w: Way) -> bool
+pub fn to_lower(w: Option<Direction>) -> bool
     ensures { result ≡ lowers w }
 {
-    match w {
-        Way::Neither => false,
-        Way::To(d) => match d {
-            Direction::Raise => false,
-            Direction::Lower => true,
-        },
-    }
+    w == Some(Direction::Lower)
 }
 
 // Whether the way is this direction.
-pub fn is_to(w: Way, d: Direction) -> bool
+pub fn is_to(w: Option<Direction>, d: Direction) -> bool
     ensures { result ≡ is_to d w }
 {
-    match d {
-        Direction::Raise => to_raise(w),
-        Direction::Lower => to_lower(w),
-    }
+    w == Some(d)
 }
 
 // Whether both are directions, and not the same.
-pub fn opposite(a: Way, b: Way) -> bool
+pub fn opposite(a: Option<Direction>, b: Option<Direction>) -> bool
     ensures { result ≡ other_of a b }
 {
-    let up = to_raise(a) & to_lower(b);
-    let down = to_lower(a) & to_raise(b);
-    up | down
+    let both = a.is_some() && b.is_some();
+    both && a != b
 }
 
 // The new one, or the old where there is none.
-pub fn newer(new: Way, old: Way) -> Way
+#[tactic(auto, using(crate::proofs::Cases::ways))]
+pub fn newer(new: Option<Direction>, old: Option<Direction>) -> Option<Direction>
     ensures { result ≡ newer_of new old }
 {
-    match new {
-        Way::Neither => old,
-        Way::To(d) => Way::To(d),
-    }
+    new.or(old)
 }

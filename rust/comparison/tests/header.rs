@@ -247,12 +247,16 @@ fn structs_have_the_librarys_fields() {
     }
 }
 
-/// The arms `Enum::Case => number` of a function.
+/// The arms `Enum::Case => number` of a function, `Some(Enum::Case)` and `None` among them.
 fn arms(path: &str, function: &str) -> Vec<(String, usize)> {
     let source = read(path);
-    let body = between(&source, &format!("pub fn {function}("), "\n}");
-    let lines = body.lines().filter_map(|line| line.trim().split_once("::")?.1.split_once(" => "));
-    let case = |case: &str| case.split(' ').next().unwrap_or("").to_string();
+    let body = between(&source, &format!("pub fn {function}("), "\n\n");
+    let lines = body.lines().filter_map(|line| line.trim().split_once(" => "));
+    let case = |case: &str| {
+        let case = case.trim_start_matches("Some(");
+        let name = case.split_once("::").map_or(case, |(_, name)| name);
+        name.split([' ', ')']).next().unwrap_or("").to_string()
+    };
     lines.filter_map(|(name, number)| Some((case(name), number.trim_end_matches(',').parse().ok()?))).collect()
 }
 
@@ -261,10 +265,14 @@ fn arms(path: &str, function: &str) -> Vec<(String, usize)> {
 fn faults_and_refusals_have_the_librarys_numbers() {
     let header = read("c/avr.h");
     let faults = ["AVR_FAULT_NONE", "AVR_FAULT_RUN_AWAY", "AVR_FAULT_NOT_STARTED", "AVR_FAULT_LONG", "AVR_FAULT_FAST"];
-    let answers = ["AVR_ACCEPTED", "AVR_REFUSED_LENGTH", "AVR_REFUSED_RANGE", "AVR_REFUSED_TAP_ORDER", "AVR_REFUSED_COUNTED"];
+    let answers = ["AVR_REFUSED_LENGTH", "AVR_REFUSED_RANGE", "AVR_REFUSED_TAP_ORDER", "AVR_REFUSED_COUNTED"];
+    let ticks = ["AVR_REFUSED_IMAGE"];
+    let looks = ["AVR_REFUSED_IMAGE", "AVR_REFUSED_HORIZON"];
     let enums = [
         ("avr_fault", arms("crates/coding_fault/src/lib.rt", "fault_number"), &faults[..]),
         ("avr_answer", arms("crates/sheet/src/lib.rt", "number"), &answers[..]),
+        ("avr_answer", arms("crates/rules/src/lib.rt", "number"), &ticks[..]),
+        ("avr_answer", arms("crates/ahead/src/lib.rt", "number"), &looks[..]),
     ];
     for (name, arms, rows_of_c) in enums {
         assert_eq!(arms.len(), rows_of_c.len(), "{arms:?}");

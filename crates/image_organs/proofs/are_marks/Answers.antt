@@ -1,15 +1,10 @@
-use Rattle.image_organs.proofs.Organs.{bits_start, bits_on, bits_no, bits_none}
-use borrow.Author.Rules.{rules}
+use Rattle.std.proofs.Common.{rules, tests, ◌∙◌}
+use Rattle.std.proofs.lemmas.Iterator.{YieldsList-from_slice}
+use Rattle.std.proofs.lemmas.Iterator.Search.{all_from_yields_List}
+use Rattle.coding_flag.specs.Numbers.{is_bit}
+use Rattle.image_organs.proofs.Organs.{all_bits}
 use Rattle.image_organs.proofs.are_marks.Goals as goal
 
-pub loop-i-init : goal.loop-i-init
-loop-i-init c = (search rules, bits_start _)
-
-pub returns-then-marks-i-gt1 : goal.returns-then-marks-i-gt1
-returns-then-marks-i-gt1 c = search (rules, bits_no)
-
-pub loop-i-preserved : goal.loop-i-preserved
-loop-i-preserved c = search (rules, bits_on)
-
 pub returns : goal.returns
-returns c = search (rules, bits_none)
+returns c =
+    all_from_yields_List is_bit _ _ c.all.result c.all.ensures.ran (YieldsList-from_slice c.args.marks cc) (λ x b q k. search (rules, tests)) ∙ all_bits c.args.marks

@@ -1,6 +1,5 @@
 -- `image_organs::organ_numbers` meets its contract. The loop's invariant: the places passed, of both arrays, hold what the
 -- definition says of them. Assumes nothing.
-use Prim.Native.Nat.{◌≤◌, ◌-◌}
 use mathlib.Core.Path.{◌≡◌}
 use lib.ListN.{length}
 use Rattle.common.proofs.Done.{done}
@@ -9,7 +8,4 @@ use Rattle.image_organs.proofs.organ_numbers.Given as goal
 
 abbrev pub invariant-loop-i : goal.invariant-loop-i
 invariant-loop-i l =
-    (l.i ≤ 7) × (length l.initial.marks ≡ 7) × (length l.initial.counts ≡ 7) × (l.marks ≡ done mark_at l.i l.initial.marks l.organs l.organs) × (l.counts ≡ done count_at l.i l.initial.counts l.organs l.organs)
-
-abbrev pub decreases-loop-i : goal.decreases-loop-i
-decreases-loop-i l = 7 - l.i
+    (length l.initial.marks ≡ 7) × (length l.initial.counts ≡ 7) × (l.marks ≡ done mark_at l.i l.initial.marks l.organs l.organs) × (l.counts ≡ done count_at l.i l.initial.counts l.organs l.organs)

@@ -1,6 +1,5 @@
 -- `image_organs::organs_of` meets its contract. The loop's invariant: the places passed hold what the definition says of them.
 -- Assumes nothing.
-use Prim.Native.Nat.{◌≤◌, ◌-◌}
 use mathlib.Core.Path.{◌≡◌}
 use lib.ListN.{length}
 use Rattle.common.proofs.Done.{done}
@@ -9,7 +8,4 @@ use Rattle.image_organs.proofs.organs_of.Given as goal
 
 abbrev pub invariant-loop-i : goal.invariant-loop-i
 invariant-loop-i l =
-    (l.i ≤ 7) × (length l.initial.organs ≡ 7) × (l.organs ≡ done organ_of l.i l.initial.organs l.marks l.counts)
-
-abbrev pub decreases-loop-i : goal.decreases-loop-i
-decreases-loop-i l = 7 - l.i
+    (length l.initial.organs ≡ 7) × (l.organs ≡ done organ_of l.i l.initial.organs l.marks l.counts)

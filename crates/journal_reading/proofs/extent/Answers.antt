@@ -1,34 +1,24 @@
-use borrow.Author.Tests.{not-true, not-false}
-use native.Mathlib.Omega.{arith}
-use Rattle.journal.proofs.Scans.{values, scanning_start, scan_fits, scanning_stop, scanning_bad, scanning_on, scanning_end}
-use borrow.Author.Rules.{rules}
+-- `journal_reading::extent` meets its contract.
+-- Assumes nothing.
+use mathlib.Core.Path.{sym, subst}
+use mathlib.Core.List.{List}
+use Prim.Native.Nat.{ℕ, ◌+◌}
+use Rattle.journal.proofs.Scans.{Scanning, rest_of, no_rest, some_rest, scanning_stop, scanning_bad, scanning_on, scanning_whole, scanning_cut}
 use Rattle.journal_reading.proofs.extent.Goals as goal
 
-pub loop-at-init : goal.loop-at-init
-loop-at-init c = search (rules, scanning_start)
+pub returns-in_default : goal.returns-in_default
+returns-in_default c = scanning_stop _ c.loop-rest.invariant (some_rest _ c.loop-rest-test.ensures) c.in_default.ensures.number
 
-pub narrow-requires : goal.narrow-requires
-narrow-requires c = values c.args.text.now c.loop-at.at c.number_at-n.ensures
+pub returns-in_default-judge : goal.returns-in_default-judge
+returns-in_default-judge c = scanning_bad _ c.loop-rest.invariant c.in-Some.ensures.number c.in_default-judge.ensures
 
-pub returns-then-n-eq0 : goal.returns-then-n-eq0
-returns-then-n-eq0 c = scanning_stop _ c.loop-at.invariant c.number_at-n.ensures c.loop-at-test.true c.if-n-eq0.true
+pub loop-rest-preserved : goal.loop-rest-preserved
+loop-rest-preserved c =
+    let g = scanning_on _ c.loop-rest.invariant c.in-Some.ensures.number c.in-Some-judge.ensures in
+    subst (λ (l : List ℕ). Scanning c.args.text.now c.in-Some-judge.next l (c.loop-rest.count + 1)) (sym (rest_of c.in-Some.n.count c.loop-rest.rest.now)) g
 
-pub returns-then-not-judged : goal.returns-then-not-judged
-returns-then-not-judged c = scanning_bad _ c.loop-at.invariant c.number_at-n.ensures c.judge-judged.ensures c.narrow.ensures c.if-n-eq0.false (not-true _ c.if-not-judged.true)
-
-pub overflow_add-at : goal.overflow_add-at
-overflow_add-at c = omega (arith, scan_fits _ c.loop-at.invariant c.number_at-n.ensures)
-
-pub overflow_add-count : goal.overflow_add-count
-overflow_add-count c = omega (arith, scan_fits _ c.loop-at.invariant c.number_at-n.ensures)
-
-pub loop-at-smaller : goal.loop-at-smaller
-loop-at-smaller c =
-    let z = c.if-n-eq0.false in
-    omega (arith, scan_fits _ c.loop-at.invariant c.number_at-n.ensures)
-
-pub loop-at-preserved : goal.loop-at-preserved
-loop-at-preserved c = scanning_on _ c.loop-at.invariant c.number_at-n.ensures c.judge-judged.ensures c.narrow.ensures c.if-n-eq0.false (not-false _ c.if-not-judged.false)
+pub returns-then-has_ended : goal.returns-then-has_ended
+returns-then-has_ended c = scanning_whole _ c.loop-rest.invariant (no_rest _ c.loop-rest-test.ensures) (sym c.if-has_ended.ensures)
 
 pub returns : goal.returns
-returns c = scanning_end _ c.loop-at.invariant c.loop-at-test.false
+returns c = scanning_cut _ c.loop-rest.invariant (no_rest _ c.loop-rest-test.ensures) (sym c.if-has_ended.ensures)

@@ -1,33 +1,23 @@
-use native.Mathlib.Omega.{arith}
-use Rattle.journal.proofs.Scans.{values, filling_start, taken, fill_fits, place_fits, filling_on, filling_end}
+-- `journal_reading::fill_list` meets its contract.
+-- Assumes nothing.
+use mathlib.Core.Path.{sym, subst}
+use mathlib.Core.List.{List}
+use Prim.Native.Nat.{ℕ, ◌+◌}
+use lib.ListN.{set}
+use Rattle.journal.proofs.Scans.{Filling, rest_of, filling_start, place_fits, filling_on, filling_end}
 use borrow.Author.Rules.{rules}
 use Rattle.journal_reading.proofs.fill_list.Goals as goal
 
-pub loop-at-init : goal.loop-at-init
-loop-at-init c = search (rules, filling_start)
-
-pub narrow-requires : goal.narrow-requires
-narrow-requires c = values c.args.text.now c.loop-at.at c.number_at-n.ensures
+pub loop-n-init : goal.loop-n-init
+loop-n-init c = search (rules, filling_start)
 
 pub bounds-list-i : goal.bounds-list-i
-bounds-list-i c = place_fits _ _ c.loop-at.invariant c.loop-at-test.true c.number_at-n.ensures
+bounds-list-i c = place_fits _ _ c.loop-n.invariant c.in-Some.ensures.number
 
-pub overflow_add-at : goal.overflow_add-at
-overflow_add-at c = omega (arith, fill_fits _ _ c.loop-at.invariant c.loop-at-test.true c.number_at-n.ensures)
-
-pub overflow_add-i : goal.overflow_add-i
-overflow_add-i c = omega (arith, place_fits _ _ c.loop-at.invariant c.loop-at-test.true c.number_at-n.ensures)
-
-pub loop-at-smaller : goal.loop-at-smaller
-loop-at-smaller c =
-    let g = c.loop-at.invariant in
-    let h = c.loop-at-test.true in
-    let e = c.number_at-n.ensures in
-    let z = taken _ _ g h e in
-    omega (arith, fill_fits _ _ g h e)
-
-pub loop-at-preserved : goal.loop-at-preserved
-loop-at-preserved c = filling_on _ _ c.loop-at.invariant c.loop-at-test.true c.number_at-n.ensures c.narrow.ensures
+pub loop-n-preserved : goal.loop-n-preserved
+loop-n-preserved c =
+    let g = filling_on _ _ c.loop-n.invariant c.in-Some.ensures.number in
+    subst (λ (l : List ℕ). Filling c.args.text.now c.args.list.now (set c.loop-n.list c.loop-n.i c.in-Some.n.value) l (c.loop-n.i + 1)) (sym (rest_of c.in-Some.n.count c.loop-n.rest.now)) g
 
 pub returns : goal.returns
-returns c = filling_end _ _ c.loop-at.invariant c.requires.1 c.loop-at-test.false
+returns c = filling_end _ _ c.loop-n.invariant c.requires.1 c.in_default.ensures.number

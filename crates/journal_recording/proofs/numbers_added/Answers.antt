@@ -9,7 +9,7 @@ pub loop-i-init : goal.loop-i-init
 loop-i-init c = search (rules, counting_start)
 
 pub overflow_add-count : goal.overflow_add-count
-overflow_add-count c = omega (arith, c.loop-i.invariant.few, c.size-n.ensures, one_most 0 0 (get_or c.args.before c.loop-i.i 0) (get_or c.args.after c.loop-i.i 0))
+overflow_add-count c = omega (arith, c.loop-i.invariant.few, c.size-count.ensures, one_most 0 0 (get_or c.args.before c.loop-i.i 0) (get_or c.args.after c.loop-i.i 0))
 
 pub loop-i-preserved : goal.loop-i-preserved
 loop-i-preserved c = search (rules, counting_on)

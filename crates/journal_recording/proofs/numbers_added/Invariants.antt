@@ -1,12 +1,7 @@
 -- `journal_recording::numbers_added` counts the changes of the fields before the ith.
 -- Assumes nothing.
-use Rattle.std.proofs.Common.{◌-◌}
-use Rattle.showing.specs.Showing.{field_count}
 use Rattle.journal_changes.proofs.Recorded.{Counting}
 use Rattle.journal_recording.proofs.numbers_added.Given as goal
 
 abbrev pub invariant-loop-i : goal.invariant-loop-i
 invariant-loop-i l = Counting l.before l.after l.count l.i
-
-abbrev pub decreases-loop-i : goal.decreases-loop-i
-decreases-loop-i l = field_count - l.i

@@ -13,5 +13,5 @@ put_changes-requires c = changes_fit c.args.stamp c.args.before c.args.after c.a
 
 pub returns : goal.returns
 returns c =
-    let p = added c.args.stamp c.args.before c.args.after c.args.list.now c.numbers_added-count.ensures c.if-list-count.false c.put_changes.ensures c.stamp_after-next.ensures in
+    let p = added c.args.stamp c.args.before c.args.after c.args.list.now c.numbers_added-count.ensures c.if-list-count.false c.put_changes.ensures c.stamp_after.ensures in
     record { answer = p.0; numbers = p.1 }

@@ -1,14 +1,6 @@
-use Rattle.line.proofs.Parts.{magnitudes}
+use mathlib.Core.Path.{refl}
+use Rattle.line.proofs.Parts.{magnitude_made}
 use Rattle.line.proofs.magnitude.Goals as goal
 
-pub squares-requires : goal.squares-requires
-squares-requires c = search magnitudes
-
-pub overflow_cast-result : goal.overflow_cast-result
-overflow_cast-result c = search magnitudes
-
-pub returns-in-Missing : goal.returns-in-Missing
-returns-in-Missing c = search magnitudes
-
-pub returns-in-Is : goal.returns-in-Is
-returns-in-Is c = search magnitudes
+pub returns : goal.returns
+returns c = magnitude_made _ _ c.in_ok-v.v _ _ c.in_ok-v.was c.requires c.squares.ensures.0 c.squares.ensures.1 c.root.ensures.each refl

@@ -1,23 +1,9 @@
-use Rattle.line.proofs.Parts.{remaining}
+use mathlib.Core.Path.{refl}
+use Rattle.line.proofs.Parts.{remains_made}
 use Rattle.line.proofs.remains.Goals as goal
 
-pub drop_re-requires : goal.drop_re-requires
-drop_re-requires c = search remaining
-
-pub overflow_sub-result : goal.overflow_sub-result
-overflow_sub-result c = search remaining
-
-pub drop_im-requires : goal.drop_im-requires
-drop_im-requires c = search remaining
-
-pub overflow_sub-result-in-Is-i : goal.overflow_sub-result-in-Is-i
-overflow_sub-result-in-Is-i c = search remaining
-
-pub returns-in-Missing : goal.returns-in-Missing
-returns-in-Missing c = search remaining
-
-pub returns-in-Missing-i : goal.returns-in-Missing-i
-returns-in-Missing-i c = search remaining
-
-pub returns-in-Is-i : goal.returns-in-Is-i
-returns-in-Is-i c = search remaining
+pub returns : goal.returns
+returns c =
+    let re = c.line_drop-drop.ensures.re in
+    let im = c.line_drop-drop.ensures.im in
+    remains_made _ _ _ _ _ c.in_ok-u.u c.in_ok-i.i _ _ c.in_ok-u.was c.in_ok-i.was c.requires.0 c.requires.1 re.0 re.1 im.0 im.1 refl

@@ -1,8 +1,8 @@
-use Rattle.line_current.proofs.Parts.{currents}
+use Rattle.line_current.proofs.Parts.{pair_small, currents}
 use Rattle.line_current.proofs.current.Goals as goal
 
-pub picked-requires : goal.picked-requires
-picked-requires c = search currents
+pub pick-requires : goal.pick-requires
+pick-requires c = (pair_small _ _ c.measure_pair-bus.ensures.within, pair_small _ _ c.measure_pair-coupler.ensures.within)
 
 pub returns : goal.returns
 returns c = search currents

@@ -28,11 +28,6 @@ returns-then-exponent-lt116 c =
 pub overflow_sub-halves : goal.overflow_sub-halves
 overflow_sub-halves c = let k = parts c.args.x (subst T (sym c.well_formed.0.1) tt) c.requires in omega (arith, (k.above c.if-exponent-lt116.false).0)
 
-pub overflow_add-result : goal.overflow_add-result
-overflow_add-result c =
-    let k = parts c.args.x (subst T (sym c.well_formed.0.1) tt) c.requires in
-    omega (arith, shifted_le 2000 (lit≤ tt) _ _ _ k c.if-exponent-lt116.false)
-
 pub overflow_cast-result : goal.overflow_cast-result
 overflow_cast-result c =
     let k = parts c.args.x (subst T (sym c.well_formed.0.1) tt) c.requires in

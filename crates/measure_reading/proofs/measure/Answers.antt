@@ -1,17 +1,12 @@
 use Rattle.measure.specs.Readings.{limit_of}
-use Rattle.measure.proofs.Laws.{measured}
-use Rattle.measure_front.proofs.Judging.{stopped}
-use Rattle.measure_reading.proofs.Qualities.{settled}
+use Rattle.measure_reading.proofs.Qualities.{readings, within}
 use Rattle.measure_reading.proofs.measure.Goals as goal
 
-pub returns-in-Missing-clause-each : goal.returns-in-Missing-clause-each
-returns-in-Missing-clause-each c = search stopped
+pub returns-in-None-clause-within : goal.returns-in-None-clause-within
+returns-in-None-clause-within c = within (limit_of c.args.c) c.args.r _ (search readings)
 
-pub returns-in-Missing-clause-within : goal.returns-in-Missing-clause-within
-returns-in-Missing-clause-within c = (measured (limit_of c.args.c) c.args.r (search stopped)).1
+pub returns-in-Some-clause-each : goal.returns-in-Some-clause-each
+returns-in-Some-clause-each c = search readings
 
-pub returns-in-Passed-clause-each : goal.returns-in-Passed-clause-each
-returns-in-Passed-clause-each c = search settled
-
-pub returns-in-Passed-clause-within : goal.returns-in-Passed-clause-within
-returns-in-Passed-clause-within c = (measured (limit_of c.args.c) c.args.r {m = c.counted.result} (search settled)).1
+pub returns-in-Some-clause-within : goal.returns-in-Some-clause-within
+returns-in-Some-clause-within c = within (limit_of c.args.c) c.args.r c.counted.result (search readings)

@@ -1,15 +1,11 @@
 use Rattle.measure.specs.Readings.{limit_of}
 use Rattle.phasor.proofs.Laws.{counting, counted}
+use Rattle.phasor.specs.Pairs.{counted_of, vector_of}
 use Rattle.phasor.proofs.measure_pair.Goals as goal
 
-pub returns-in-Missing-clause-each : goal.returns-in-Missing-clause-each
-returns-in-Missing-clause-each c = search counting
+pub returns-in_err-n : goal.returns-in_err-n
+returns-in_err-n c = let e = counted (limit_of c.args.c) c.args.p {v = c.from_residual.result} (search counting) in record { each = e.0; within = e.1 }
 
-pub returns-in-Missing-clause-within : goal.returns-in-Missing-clause-within
-returns-in-Missing-clause-within c = (counted (limit_of c.args.c) c.args.p (search counting)).1
-
-pub returns-in-Both-clause-each : goal.returns-in-Both-clause-each
-returns-in-Both-clause-each c = search counting
-
-pub returns-in-Both-clause-within : goal.returns-in-Both-clause-within
-returns-in-Both-clause-within c = (counted (limit_of c.args.c) c.args.p {v = c.paired.result} (search counting)).1
+pub returns : goal.returns
+unfolding vector_of counted_of
+returns c = let e = counted (limit_of c.args.c) c.args.p {v = c.paired.result} (search counting) in record { each = e.0; within = e.1 }

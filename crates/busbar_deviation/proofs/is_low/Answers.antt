@@ -1,5 +1,0 @@
-use Rattle.busbar_deviation.proofs.Bands.{bands}
-use Rattle.busbar_deviation.proofs.is_low.Goals as goal
-
-pub returns : goal.returns
-returns c = search bands

@@ -1,5 +1,0 @@
-use Rattle.phasor.proofs.Parts.{parts}
-use Rattle.phasor.proofs.judge_part.Goals as goal
-
-pub returns : goal.returns
-returns c = search parts
