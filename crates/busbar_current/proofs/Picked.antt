@@ -6,12 +6,14 @@ use Prim.Native.Nat.{ℕ, ◌+◌, ◌≤◌}
 use native.Mathlib.Omega.{arith}
 use borrow.Author.Tests.{eq-eqb}
 use lib.Dec.{eqb}
+use mir.Syntax.{w64}
+use Rattle.std.proofs.lemmas.Int.{int_wrap_fits, fits_signed_from_abs}
 use lib.IntN.{ℤ, nat_abs, ◌+ℤ◌, ◌-ℤ◌}
 use Rattle.common.specs.Choice.{choose}
 use Rattle.common.proofs.Cases.{yes, chosen}
 use Rattle.common.proofs.Signed.{nat_abs-add, nat_abs-sub, Stands}
 use Rattle.slots.specs.Slots.{slot, compensation_current}
-use Rattle.busbar_current.specs.Current.{picked_of}
+use Rattle.busbar_current.specs.Current.{most_reading, wrapped, picked_of}
 
 -- what a sum and a difference have in common: they are no larger than the two together
 abbrev pub Joins : (ℤ → ℤ → ℤ) → Type 0
@@ -23,6 +25,10 @@ joined f l {s} {x} {t} {y} p q =
     let g = q.is in
     record { is = cc; within = omega (arith, l x y, p.within, q.within) }
 
+-- what 64 bits hold of two numbers joined is the two joined, where neither is larger than a reading
+pub exact : (f : ℤ → ℤ → ℤ) → Joins f → (x y : ℤ) → nat_abs x ≤ most_reading → nat_abs y ≤ most_reading → wrapped f x y ≡ f x y
+exact f l x y h k = int_wrap_fits w64 (f x y) (fits_signed_from_abs w64 (f x y) (omega (arith, l x y, h, k)))
+
 module _ {A : Type 0} (by : (ℤ → ℤ → ℤ) → A → A → A) (s : List ℕ) where
   -- what holds of each current, and of the two joined, holds of the one that is picked
   pub picked_has : (P : A → Type 0) (bus coupler : A) → P bus → P coupler → ((f : ℤ → ℤ → ℤ) → Joins f → P (by f bus coupler)) → P (picked_of by s bus coupler)
@@ -32,6 +38,12 @@ module _ {A : Type 0} (by : (ℤ → ℤ → ℤ) → A → A → A) (s : List �
       (λ p. chosen P (eqb (slot s compensation_current) 1) _ _ (λ q. c)
       (λ q. chosen P (eqb (slot s compensation_current) 2) _ _ (λ o. j ◌-ℤ◌ nat_abs-sub)
       (λ o. j ◌+ℤ◌ nat_abs-add)))
+
+  -- whatever joins the two alike, the choice is the same
+  pub picked_alike : (other : (ℤ → ℤ → ℤ) → A → A → A) (bus coupler : A) → ((f : ℤ → ℤ → ℤ) → Joins f → by f bus coupler ≡ other f bus coupler)
+      → picked_of by s bus coupler ≡ picked_of other s bus coupler
+  unfolding picked_of
+  picked_alike other bus coupler h = rw (h ◌-ℤ◌ nat_abs-sub, h ◌+ℤ◌ nat_abs-add)
 
   -- a current that slot 4 does not name is not needed
   pub coupler_unneeded : (a b c : A) → slot s compensation_current ≡ 0 → picked_of by s a b ≡ picked_of by s a c

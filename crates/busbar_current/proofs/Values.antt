@@ -1,6 +1,6 @@
 -- The definitions that go by a reading's kind or by whether a number is missing, as `search` follows them: `search values`.
 -- Assumes nothing.
-use mathlib.Core.Path.{◌≡◌, ap}
+use mathlib.Core.Path.{◌≡◌, refl, ap, ◌∙◌}
 use mathlib.Core.List.{List}
 use Prim.Native.Nat.{ℕ, ◌+◌, ◌<◌, ◌≤◌, ◌^◌}
 use native.Mathlib.Nat.{le_trans}
@@ -14,9 +14,9 @@ use Rattle.common.proofs.Cases.{cases, chosen}
 use Rattle.common.proofs.Signed.{cast}
 use Rattle.measure.specs.declared.Measured.{Measured}
 use Rattle.measure.specs.declared.Measured.TheVariants as measured
-use Rattle.busbar_current.specs.Current.{most_reading, good_of, both, current_of, most_current, Within}
-use Rattle.std.specs.Prelude.{Option, None, Some, IfSome}
-use Rattle.busbar_current.proofs.Picked.{Joins, picked_has}
+use Rattle.busbar_current.specs.Current.{most_reading, good_of, both, wrapped, picked_of, current_of, most_current, Within}
+use Rattle.std.specs.Prelude.{Option, None, Some}
+use Rattle.busbar_current.proofs.Picked.{Joins, exact, picked_alike, picked_has}
 
 -- ---- readings
 
@@ -53,14 +53,18 @@ good_le measured.Missing = tt
 pub good_within : (r : Option ℤ) (m : Measured) → r ≡ good_of m → Within most_reading r
 good_within r m e = rw e (good_le m)
 
-small : (r : Option ℤ) → Within most_reading r → IfSome r (λ z. nat_abs z ≤ most_reading)
-unfolding Within
-small None h = tt
-small (Some z) h = h
+both_exact : (f : ℤ → ℤ → ℤ) → Joins f → (a b : Option ℤ) → Within most_reading a → Within most_reading b → both (wrapped f) a b ≡ both f a b
+unfolding both Within
+both_exact f l None b h k = refl
+both_exact f l (Some x) None h k = refl
+both_exact f l (Some x) (Some y) h k = ap Some (exact f l x y h k)
 
--- a number that slot 4 may join
-pub good_small : (r : Option ℤ) (m : Measured) → r ≡ good_of m → IfSome r (λ z. nat_abs z ≤ most_reading)
-good_small r m e = small r (good_within r m e)
+-- what slot 4 picks of two readings is exact
+pub current_made : (r : Option ℤ) (s : List ℕ) (bus coupler : Measured) (a b : Option ℤ) → a ≡ good_of bus → b ≡ good_of coupler
+    → r ≡ picked_of (λ f. both (wrapped f)) s a b → r ≡ current_of s bus coupler
+unfolding current_of
+current_made r s bus coupler a b p q e =
+    rw (p, q) at e ∙ picked_alike (λ f. both (wrapped f)) s both (good_of bus) (good_of coupler) (λ f l. both_exact f l _ _ (good_le bus) (good_le coupler))
 
 more : (n m : ℕ) (v : Option ℤ) → n ≤ m → Within n v → Within m v
 unfolding Within
@@ -84,4 +88,4 @@ current_within r s bus coupler e =
     (λ f l. both_le f l most_reading _ _ b c))
 
 -- readings and what is computed of them
-pub ruleset values = (is_cast, good_within, good_small, current_within, cases)
+pub ruleset values = (is_cast, good_within, current_made, current_within, cases)

@@ -1,5 +1,7 @@
 -- Rule 6 of 01: the number of a Good reading, and the current of the compensation. Definitions only.
 use Rattle.std.specs.Prelude.{ℕ, ◌+◌, ◌*◌, ◌≤◌, Bool, true, false, Option, None, Some, List, eqb, leb, ℤ, pos, nat_abs, ◌+ℤ◌, ◌-ℤ◌}
+use Rattle.std.specs.Int.{int_wrap}
+use mir.Syntax.{w64}
 use Rattle.common.specs.Choice.{choose}
 use Rattle.slots.specs.Slots.{slot, compensation_current}
 use Rattle.measure.specs.declared.Measured.{Measured}
@@ -41,6 +43,10 @@ unfoldable pub both : {A : Type 0} → (A → A → A) → Option A → Option A
 both f None b = None
 both f (Some x) None = None
 both f (Some x) (Some y) = Some (f x y)
+
+-- two numbers joined, as 64 bits hold what comes of it: itself, where both are no larger than a reading (`proofs/Picked.antt`)
+abbrev pub wrapped : (ℤ → ℤ → ℤ) → ℤ → ℤ → ℤ
+wrapped f x y = int_wrap w64 (f x y)
 
 -- of two pairs, part by part
 abbrev pub parts : (ℤ → ℤ → ℤ) → Vector → Vector → Vector

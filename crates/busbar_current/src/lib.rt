@@ -1,8 +1,8 @@
 // What rule 6 takes of readings: the number of a Good one, in mV or mA, and the current of the compensation, of numbers or of pairs.
 #![tactic(auto)]
 
-ghost use Rattle.std.specs.Prelude.{◌≡◌, ◌≤◌, ℤ, ◌+ℤ◌, ◌-ℤ◌, nat_abs, IfSome};
-ghost use Rattle.busbar_current.specs.Current.{most_reading, reading_of, good_of, both, parts, picked_of, current_of};
+ghost use Rattle.std.specs.Prelude.{◌≡◌, ℤ, ◌+ℤ◌, ◌-ℤ◌};
+ghost use Rattle.busbar_current.specs.Current.{reading_of, good_of, both, wrapped, parts, picked_of, current_of};
 
 use measure::Measured;
 use phasor::Vector;
@@ -11,40 +11,35 @@ use slots::{COMPENSATION_CURRENT, SLOTS};
 // 200 V, or 200 A of a 5 A module: no reading is above it.
 const MOST_READING: u32 = 200_000;
 
-// What slot 4 picks or joins: a number, or a pair, which is joined part by part.
+// What slot 4 picks or joins: a number, or a pair, which is joined part by part. Of numbers that are no larger than a reading the sum
+// and the difference are exact; of any others they are what 64 bits hold.
 pub trait Quantity: Copy {
-    ghost is_small: { Self → Type 0 };
-
     // Two of them joined, by what joins two numbers.
     ghost by: { (ℤ → ℤ → ℤ) → Self → Self → Self };
 
     fn sum(self, other: Self) -> Self
-        requires { is_small self × is_small other }
         ensures { result ≡ by ◌+ℤ◌ self other };
 
     fn difference(self, other: Self) -> Self
-        requires { is_small self × is_small other }
         ensures { result ≡ by ◌-ℤ◌ self other };
 }
 
 impl Quantity for i64 {
-    ghost is_small = { λ z. nat_abs z ≤ most_reading };
+    ghost by = { wrapped };
 
-    ghost by = { λ f. f };
-
+    #[tactic(auto, using(std::proofs::lemmas::Int::wrapping_add_is))]
     fn sum(self, other: i64) -> i64 {
-        self + other
+        self.wrapping_add(other)
     }
 
+    #[tactic(auto, using(std::proofs::lemmas::Int::wrapping_sub_is))]
     fn difference(self, other: i64) -> i64 {
-        self - other
+        self.wrapping_sub(other)
     }
 }
 
 impl Quantity for Vector {
-    ghost is_small = { λ v. (nat_abs v.re ≤ most_reading) × (nat_abs v.im ≤ most_reading) };
-
-    ghost by = { parts };
+    ghost by = { λ f. parts (wrapped f) };
 
     fn sum(self, other: Vector) -> Vector {
         Vector {
@@ -87,7 +82,6 @@ pub fn good(m: Measured) -> Option<i64>
 // The current that slot 4 picks of two; only those that it names are needed.
 #[tactic(auto, using(common::proofs::Cases::cases), unfolding(crate::specs::Current::picked_of, crate::specs::Current::both))]
 pub fn pick<Q: Quantity>(s: &[u32; SLOTS], bus: Option<Q>, coupler: Option<Q>) -> Option<Q>
-    requires { IfSome bus Q.is_small × IfSome coupler Q.is_small }
     ensures { result ≡ picked_of (λ f. both (Q.by f)) s.now bus coupler }
 {
     match s[COMPENSATION_CURRENT] {
@@ -99,7 +93,7 @@ pub fn pick<Q: Quantity>(s: &[u32; SLOTS], bus: Option<Q>, coupler: Option<Q>) -
 }
 
 // The current I of the compensation.
-#[tactic(auto, using(crate::proofs::Values::values), unfolding(crate::specs::Current::current_of))]
+#[tactic(auto, using(crate::proofs::Values::values))]
 pub fn current(s: &[u32; SLOTS], i_bus: Measured, i_coupler: Measured) -> Option<i64>
     ensures { result ≡ current_of s.now i_bus i_coupler }
 {

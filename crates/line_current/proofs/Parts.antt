@@ -1,6 +1,6 @@
 -- The definitions that go by whether a pair is missing, as `search` follows them, and no part above its bound.
 -- Assumes nothing.
-use mathlib.Core.Path.{◌≡◌, refl}
+use mathlib.Core.Path.{◌≡◌, refl, ◌∙◌}
 use mathlib.Core.List.{List}
 use Prim.Native.Nat.{ℕ, ◌+◌, ◌*◌, ◌≤◌}
 use native.Mathlib.Nat.{le_trans}
@@ -14,12 +14,12 @@ use Rattle.measure.specs.declared.Channel.TheVariants.{Voltage, Current1A, Curre
 use Rattle.measure.specs.Readings.{limit_of}
 use Rattle.phasor.specs.declared.Phasors.{Phasors}
 use Rattle.phasor.specs.declared.Vector.{Vector}
-use Rattle.std.specs.Prelude.{Option, None, Some, IfSome}
+use Rattle.std.specs.Prelude.{Option, None, Some}
 use Rattle.phasor.specs.Pairs.{vector_of, Within}
 use Rattle.phasor.proofs.Laws.{counted}
 use Rattle.input.specs.Brought as brought
-use Rattle.busbar_current.specs.Current.{most_reading, most_current, both, picked_of}
-use Rattle.busbar_current.proofs.Picked.{Joins, picked_has}
+use Rattle.busbar_current.specs.Current.{most_reading, most_current, both, wrapped, parts, picked_of}
+use Rattle.busbar_current.proofs.Picked.{Joins, exact, picked_alike, picked_has}
 use Rattle.line_current.specs.Pair.{by_parts, amperes, current_of}
 
 -- ---- a pair that is there
@@ -64,15 +64,19 @@ current_within r s p e =
     (picked_has by_parts s (Within most_current) _ _ (more most_reading most_current _ (lit≤ tt) b) (more most_reading most_current _ (lit≤ tt) c)
     (λ f l. by_parts_le f l most_reading _ _ b c))
 
+parts_exact : (f : ℤ → ℤ → ℤ) → Joins f → (a b : Option Vector) → Within most_reading a → Within most_reading b → both (parts (wrapped f)) a b ≡ by_parts f a b
+unfolding both Within
+parts_exact f l None b h k = refl
+parts_exact f l (Some u) None h k = refl
+parts_exact f l (Some u) (Some v) h k = rw (exact f l u.re v.re h.0 k.0, exact f l u.im v.im h.1 k.1)
+
+-- what slot 4 picks of two pairs is exact
 pub current_made : (r : Option Vector) (s : List ℕ) (p : Phasors) (c : Channel) (bus coupler : Option Vector) → c ≡ brought.current_of (eqb (slot s module_kind) 1)
-    → bus ≡ vector_of (limit_of c) p.i_bus → coupler ≡ vector_of (limit_of c) p.i_coupler → r ≡ picked_of by_parts s bus coupler → r ≡ current_of s p
+    → bus ≡ vector_of (limit_of c) p.i_bus → coupler ≡ vector_of (limit_of c) p.i_coupler → Within (1000 * limit_of c) bus → Within (1000 * limit_of c) coupler
+    → r ≡ picked_of (λ f. both (parts (wrapped f))) s bus coupler → r ≡ current_of s p
 unfolding current_of
-current_made r s p c bus coupler e f g q = rw (← e, ← f, ← g) q
+current_made r s p c bus coupler e f g h k q =
+    q ∙ picked_alike (λ f. both (parts (wrapped f))) s by_parts bus coupler (λ f l. parts_exact f l bus coupler (pair_within c bus h) (pair_within c coupler k))
+    ∙ rw (f, g, e)
 
--- a pair that slot 4 may join
-pub pair_small : (c : Channel) (v : Option Vector) → Within (1000 * limit_of c) v → IfSome v (λ w. (nat_abs w.re ≤ most_reading) × (nat_abs w.im ≤ most_reading))
-unfolding Within
-pair_small c None h = tt
-pair_small c (Some w) h = (le_trans h.0 (limit_most c), le_trans h.1 (limit_most c))
-
-pub ruleset currents = (pair_small, current_made, rules)
+pub ruleset currents = (current_made, rules)

@@ -8,6 +8,7 @@ use phasor::{Phasors, Vector};
 use slots::{MODULE, SLOTS};
 
 // The current, of the pairs as the module measures them.
+#[tactic(auto, using(crate::proofs::Parts::currents))]
 pub fn current(s: &[u32; SLOTS], p: Phasors) -> Option<Vector>
     ensures { result ≡ current_of s.now p }
 {
