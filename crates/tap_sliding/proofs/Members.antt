@@ -4,7 +4,7 @@ use Rattle.std.proofs.Common.{◌≡◌, refl, Bool, not, ◌&&◌, List, ℕ, z
 use Rattle.std.specs.List.{list_any}
 use Rattle.std.proofs.lemmas.List.{get_or-drop}
 use Rattle.std.proofs.lemmas.List.Folds.{list_any_more}
-use Rattle.slots.specs.Slots.{sliding_taps}
+use Rattle.slots.specs.Slots.{slots, sliding_taps}
 use Rattle.tap_sliding.specs.Sliding.{sliding, stands_in, sliding_of}
 
 module _ (s : List ℕ) (tap : ℕ) where
@@ -15,7 +15,7 @@ module _ (s : List ℕ) (tap : ℕ) where
       let l : n < length (drop sliding_taps s) = omega (arith, length-drop {A = ℕ}) in
       rw (← add-one, list_any_more (λ y. nat_eq y tap) (drop sliding_taps s) n 0 l, get_or-drop, stands_lem n (omega arith))
 
-  pub stands_found : (found : Bool) → length s ≡ 68 → found ≡ list_any (λ y. nat_eq y tap) (take sliding (drop sliding_taps s))
+  pub stands_found : (found : Bool) → length s ≡ slots → found ≡ list_any (λ y. nat_eq y tap) (take sliding (drop sliding_taps s))
       → (found && not (nat_eq tap 0)) ≡ sliding_of s tap
   unfolding sliding_of
   stands_found found l e = rw (e, stands_lem sliding (omega arith))
