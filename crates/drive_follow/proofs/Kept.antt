@@ -26,7 +26,7 @@ module _ (x : Contact) (four : 1 ≤ x.t4) where
   abbrev Good : Followed → Type 0
   Good o = Sound x.t4 x.t5 o
 
-  rest_good : (f : Fault) → Good (faulty_of f)
+  rest_good : (f : Option Fault) → Good (faulty_of f)
   unfolding within_of
   rest_good f = record { within = refl; stopped = λ p. refl }
 

@@ -60,14 +60,14 @@ module _ (k : Contact) where
   abbrev Stirs : Followed → Type 0
   Stirs o = is_fault o.fault ≡ false → rests_of o.drive ≡ true → ⊥
 
-  closes : k.local ≡ false → k.faulty ≡ false → k.closed ≡ true → choose k.sliding (own_of k.last) (faulty_of RunAway) ≡ follow_of Resting k
+  closes : k.local ≡ false → k.faulty ≡ false → k.closed ≡ true → choose k.sliding (own_of k.last) (faulty_of (Some RunAway)) ≡ follow_of Resting k
   unfolding follow_of supervised_of rest_of
   closes l f c = no _ _ _ _ l (yes _ _ _ _ (rw (c, f)) refl)
 
   closing : (d : Drive) → rests_of d ≡ true → k.local ≡ false → k.faulty ≡ false → k.closed ≡ true → Stirs (follow_of d k)
   closing d e l f c =
-      let s : Stirs (choose k.sliding (own_of k.last) (faulty_of RunAway)) =
-      chosen Stirs k.sliding (own_of k.last) (faulty_of RunAway) (λ p. own_starts k.last) (λ p f r. true≢false f) in
+      let s : Stirs (choose k.sliding (own_of k.last) (faulty_of (Some RunAway))) =
+      chosen Stirs k.sliding (own_of k.last) (faulty_of (Some RunAway)) (λ p. own_starts k.last) (λ p f r. true≢false f) in
       rw (rests_is d e) (subst Stirs (closes l f c) s)
 
   pub rest_needs_open : (d : Drive) → rests_of d ≡ true → k.local ≡ false → k.faulty ≡ false → is_fault (follow_of d k).fault ≡ false
@@ -87,7 +87,7 @@ module _ (k : Contact) where
     unfolding follow_of supervised_of asked_of
     asked_open c =
         subst AskedStill (no _ _ _ _ l (no _ _ _ _ c refl))
-        (chosen AskedStill (ltb (a + 1) k.t5) (unmoved_of (Asked e (a + 1) b)) (faulty_of NotStarted) (λ p f. (a + 1, refl)) (λ p f. absurd (true≢false f)))
+        (chosen AskedStill (ltb (a + 1) k.t5) (unmoved_of (Asked e (a + 1) b)) (faulty_of (Some NotStarted)) (λ p f. (a + 1, refl)) (λ p f. absurd (true≢false f)))
 
     pub asked_closed : k.closed ≡ true → (follow_of (Asked e a b) k).drive ≡ Moving e 1 true
     unfolding follow_of supervised_of asked_of
@@ -102,7 +102,7 @@ module _ (k : Contact) where
     unfolding follow_of supervised_of moving_of
     moving_closed c =
         subst MovesStill (no _ _ _ _ l (yes _ _ _ _ c refl))
-        (chosen MovesStill (leb (a + 1) k.t4) (unmoved_of (Moving e (a + 1) m)) (faulty_of Long) (λ p f. (a + 1, refl)) (λ p f. absurd (true≢false f)))
+        (chosen MovesStill (leb (a + 1) k.t4) (unmoved_of (Moving e (a + 1) m)) (faulty_of (Some Long)) (λ p f. (a + 1, refl)) (λ p f. absurd (true≢false f)))
 
     pub moving_open : k.closed ≡ false → (follow_of (Moving e a m) k).drive ≡ Resting
     unfolding follow_of supervised_of moving_of

@@ -14,8 +14,8 @@ abbrev pub unmoved_of : Drive → Followed
 unmoved_of d = record { drive = d; fault = None; ended = None; operation = false }
 
 -- "a fault brings rest"
-abbrev pub faulty_of : Fault → Followed
-faulty_of f = record { drive = Resting; fault = Some f; ended = None; operation = false }
+abbrev pub faulty_of : Option Fault → Followed
+faulty_of f = record { drive = Resting; fault = f; ended = None; operation = false }
 
 -- "an ended move, fast or not, .. adds 1 to operations"
 abbrev pub ended_of : Direction → Option Fault → Followed
@@ -27,24 +27,24 @@ stay_of d age automatic limit over = choose (ltb (age + 1) limit) (unmoved_of (A
 
 -- at a sliding tap: "an own move that way starts, length 1", if there is a last direction
 unfoldable pub own_of : Option Direction → Followed
-own_of None = faulty_of RunAway
+own_of None = faulty_of (Some RunAway)
 own_of (Some d) = unmoved_of (Moving d 1 false)
 
 -- "resting, contact closed, no fault: run-away, unless the tap is a sliding one and there is a last direction"
 unfoldable pub rest_of : Contact → Followed
-rest_of x = choose (x.closed && not x.faulty) (choose x.sliding (own_of x.last) (faulty_of RunAway)) (unmoved_of Resting)
+rest_of x = choose (x.closed && not x.faulty) (choose x.sliding (own_of x.last) (faulty_of (Some RunAway))) (unmoved_of Resting)
 
 -- "contact closed starts the move, length 1; else open on the T5th tick after the command's first is fault 'not started'"
 unfoldable pub asked_of : Direction → ℕ → Bool → Contact → Followed
 asked_of d age automatic x =
     choose x.closed (unmoved_of (Moving d 1 true))
-    (choose (ltb (age + 1) x.t5) (unmoved_of (Asked d (age + 1) automatic)) (faulty_of NotStarted))
+    (choose (ltb (age + 1) x.t5) (unmoved_of (Asked d (age + 1) automatic)) (faulty_of (Some NotStarted)))
 
 -- "closed adds 1, above T4 is 'long'; open ends the move, and 'fast' if commanded and shorter than T6"
 unfoldable pub moving_of : Direction → ℕ → Bool → Contact → Followed
 moving_of d n commanded x =
     choose x.closed
-    (choose (leb (n + 1) x.t4) (unmoved_of (Moving d (n + 1) commanded)) (faulty_of Long))
+    (choose (leb (n + 1) x.t4) (unmoved_of (Moving d (n + 1) commanded)) (faulty_of (Some Long)))
     (choose (commanded && ltb n x.t6) (ended_of d (Some Fast)) (ended_of d None))
 
 -- by what the drive was as the tick started

@@ -41,11 +41,11 @@ pub fn unmoved(d: Drive) -> Followed
     }
 }
 
-pub fn faulty(f: Fault) -> Followed
+pub fn faulty(f: Option<Fault>) -> Followed
     ensures { result ≡ faulty_of f }
 {
     Followed {
-        fault: Some(f),
+        fault: f,
         ..unmoved(Drive::Resting)
     }
 }
@@ -85,7 +85,7 @@ fn own_move(last: Option<Direction>) -> Followed
     ensures { result ≡ own_of last }
 {
     match last {
-        None => faulty(Fault::RunAway),
+        None => faulty(Some(Fault::RunAway)),
         Some(d) => unmoved(Drive::Moving {
             direction: d,
             length: 1,
@@ -102,7 +102,7 @@ fn from_rest(x: Contact) -> Followed
         if x.sliding {
             own_move(x.last)
         } else {
-            faulty(Fault::RunAway)
+            faulty(Some(Fault::RunAway))
         }
     } else {
         unmoved(Drive::Resting)
@@ -120,7 +120,7 @@ fn from_asked(d: Direction, age: u32, automatic: bool, x: Contact) -> Followed
             commanded: true,
         })
     } else {
-        stay_asked(d, age, automatic, x.t5, faulty(Fault::NotStarted))
+        stay_asked(d, age, automatic, x.t5, faulty(Some(Fault::NotStarted)))
     }
 }
 
@@ -136,7 +136,7 @@ fn from_moving(d: Direction, length: u32, commanded: bool, x: Contact) -> Follow
                 commanded,
             })
         } else {
-            faulty(Fault::Long)
+            faulty(Some(Fault::Long))
         }
     } else if commanded & (length < x.t6) {
         ended(d, Some(Fault::Fast))

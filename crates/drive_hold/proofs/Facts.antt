@@ -16,6 +16,7 @@ use Rattle.drive.specs.declared.Drive.{Drive}
 use Rattle.drive.specs.declared.Drive.TheVariants.{Asked}
 use Rattle.drive_follow.specs.declared.Followed.{Followed}
 use Rattle.drive_hold.specs.declared.Holding.{Holding}
+use Rattle.std.specs.Prelude.{Some}
 use Rattle.drive_follow.specs.Follow.{unmoved_of, faulty_of}
 use Rattle.drive_hold.specs.Hold.{released_of, ends_of, automatic_of, manual_of, held_of, held_from, hold_of}
 
@@ -51,7 +52,7 @@ module _ (d : Direction) (automatic : Bool) (t4 : ℕ) where
     stays h = sym (older h automatic refl ∙ attended)
 
     -- on its T4th tick it ends
-    late_automatic : n + 1 ≡ t4 → automatic ≡ true → faulty_of Long ≡ automatic_of d n x
+    late_automatic : n + 1 ≡ t4 → automatic ≡ true → faulty_of (Some Long) ≡ automatic_of d n x
     unfolding automatic_of
     late_automatic h e = no _ _ _ _ (k.free e) (no _ _ _ _ (rw k.limit (le-ltb (n + 1) t4 (omega arith))) refl)
 
@@ -59,12 +60,12 @@ module _ (d : Direction) (automatic : Bool) (t4 : ℕ) where
     unfolding manual_of
     late_manual h = no _ _ _ _ (rw k.limit (le-ltb (n + 1) t4 (omega arith))) refl
 
-    over : n + 1 ≡ t4 → (b : Bool) → automatic ≡ b → choose b (faulty_of Long) released_of ≡ choose b (automatic_of d n x) (manual_of d n x)
+    over : n + 1 ≡ t4 → (b : Bool) → automatic ≡ b → choose b (faulty_of (Some Long)) released_of ≡ choose b (automatic_of d n x) (manual_of d n x)
     unfolding choose
     over h true e = late_automatic h e
     over h false e = late_manual h
 
-    pub ends : n + 1 ≡ t4 → hold_of (Asked d n automatic) x ≡ choose automatic (faulty_of Long) released_of
+    pub ends : n + 1 ≡ t4 → hold_of (Asked d n automatic) x ≡ choose automatic (faulty_of (Some Long)) released_of
     ends h = sym (over h automatic refl ∙ attended)
 
   -- after fewer than T4 ticks it is held, and as old as they are many
@@ -79,5 +80,5 @@ module _ (d : Direction) (automatic : Bool) (t4 : ℕ) where
 
   -- and the T4th tick after its first ends it
   pub ends_at_t4 : (xs : List Holding) (x : Holding) → All xs → Keeps x → length xs + 1 ≡ t4
-      → hold_of (after (Asked d 0 automatic) xs) x ≡ choose automatic (faulty_of Long) released_of
+      → hold_of (after (Asked d 0 automatic) xs) x ≡ choose automatic (faulty_of (Some Long)) released_of
   ends_at_t4 xs x a k h = ap (λ (s : Drive). hold_of s x) (held xs a (omega arith)) ∙ ends (length xs) x k h

@@ -4,6 +4,7 @@ use mathlib.Core.Path.{◌≡◌, refl, sym}
 use mathlib.Core.Bool.{true, false, true≢false}
 use Prim.Native.Nat.{ℕ, ◌+◌}
 use Rattle.common.proofs.Cases.{either, chosen}
+use Rattle.std.specs.Prelude.{Some}
 use Rattle.drive_follow.specs.Follow.{unmoved_of, faulty_of, rests_of}
 use Rattle.drive_hold.specs.Hold.{released_of, automatic_of, manual_of, held_from, hold_of, within_of}
 use Rattle.fault.specs.Latches.{is_fault, long_or_none}
@@ -29,7 +30,7 @@ module _ (x : Holding) where
   unfolding within_of
   rest_good = unmoved_good Resting refl
 
-  long_good : Good (faulty_of Long)
+  long_good : Good (faulty_of (Some Long))
   unfolding within_of
   long_good = record { within = refl; stopped = λ p. refl; long = refl }
 

@@ -22,7 +22,7 @@ ends_of d x = x.in_band || other_of x.side (Some d) || not x.automatic || (x.blo
 -- "an automatic command stays until the first tick that is [so]; on the T4th tick after its first, if none came, that tick included ..,
 -- it ends as 'long'"
 unfoldable pub automatic_of : Direction → ℕ → Holding → Followed
-automatic_of d age x = choose (ends_of d x) released_of (choose (ltb (age + 1) x.t4) (unmoved_of (Asked d (age + 1) true)) (faulty_of Long))
+automatic_of d age x = choose (ends_of d x) released_of (choose (ltb (age + 1) x.t4) (unmoved_of (Asked d (age + 1) true)) (faulty_of (Some Long)))
 
 -- "a manual command stays for T4 ticks, whatever blocks arise": it ends on the T4th tick after its first
 unfoldable pub manual_of : Direction → ℕ → Holding → Followed

@@ -49,7 +49,7 @@ fn hold_automatic(d: Direction, age: u32, x: Holding) -> Followed
     if ends(d, x) {
         released()
     } else {
-        drive_follow::stay_asked(d, age, true, x.t4, drive_follow::faulty(Fault::Long))
+        drive_follow::stay_asked(d, age, true, x.t4, drive_follow::faulty(Some(Fault::Long)))
     }
 }
 
