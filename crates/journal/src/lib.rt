@@ -18,13 +18,13 @@ pub enum Turn {
     Value,
 }
 
-// What stands before a number: whose turn it is, the last stamp if there is one, whether this change has the stamp of the one before,
+// What stands before a number: whose turn it is, whether this change has the stamp of the one before, the last stamp if there is one,
 // the last field, and each field's last value.
 #[derive(Clone, Copy)]
 pub struct Progress {
     pub turn: Turn,
-    pub stamp: Option<u32>,
     pub same: bool,
+    pub stamp: Option<u32>,
     pub field: u32,
     pub last: [u32; FIELDS],
 }

@@ -113,7 +113,9 @@ fn judge_value(s: &Progress, n: u32) -> Option<Progress>
     })
 }
 
-// What stands before the next number, where this one keeps the rules.
+// What stands before the next number, where this one keeps the rules. It stands in the loops that call it: as a call it would copy the whole
+// progress for each number.
+#[inline(always)]
 #[tactic(auto, unfolding(journal::specs::Rules::judged_number))]
 pub fn judge(s: &Progress, n: u32) -> Option<Progress>
     ensures { result ≡ judged_number s.now n }
