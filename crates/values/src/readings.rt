@@ -53,7 +53,10 @@ pub(crate) fn print_front<R: Print>(rt: &R, r: Row, exponent: u8) -> io::Result<
         minus: r.numbers[3] == 1,
         exponent,
     };
-    let passes = measure_front::passes(channel(r.numbers[1] as u64), f);
-    let digit = passes as u8;
-    print!(rt; "{digit}")
+    // A byte as it is: a row has 256 of these, and to format each takes longer than to write it.
+    if measure_front::passes(channel(r.numbers[1] as u64), f) {
+        rt.write_all(b"1")
+    } else {
+        rt.write_all(b"0")
+    }
 }
