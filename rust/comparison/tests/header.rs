@@ -260,6 +260,13 @@ fn arms(path: &str, function: &str) -> Vec<(String, usize)> {
     lines.filter_map(|(name, number)| Some((case(name), number.trim_end_matches(',').parse().ok()?))).collect()
 }
 
+/// What a function that asks a refusal for its number gives where there is none, in `map_or`.
+fn accepted(path: &str, function: &str) -> usize {
+    let source = read(path);
+    let body = between(&source, &format!("pub fn {function}<T>("), "\n\n").to_string();
+    between(&body, "map_or(", ",").parse().expect("a number")
+}
+
 /// The other kinds are held by what the library does: `kinds.rs`.
 #[test]
 fn faults_and_refusals_have_the_librarys_numbers() {
@@ -274,6 +281,9 @@ fn faults_and_refusals_have_the_librarys_numbers() {
         ("avr_answer", arms("crates/rules/src/lib.rt", "number"), &ticks[..]),
         ("avr_answer", arms("crates/ahead/src/lib.rt", "number"), &looks[..]),
     ];
+    let taken = find(&rows(&header, "avr_answer"), "AVR_ACCEPTED");
+    assert_eq!(taken, accepted("crates/sheet/src/lib.rt", "number"), "AVR_ACCEPTED, of a sheet");
+    assert_eq!(arms("crates/rules/src/lib.rt", "refusal_in"), [("Ok(_".to_string(), taken)], "AVR_ACCEPTED, of a tick");
     for (name, arms, rows_of_c) in enums {
         assert_eq!(arms.len(), rows_of_c.len(), "{arms:?}");
         for ((case, number), row) in arms.iter().zip(rows_of_c) {
